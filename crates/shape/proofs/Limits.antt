@@ -1,0 +1,42 @@
+-- What a shape that keeps its limits gives. Assumes nothing.
+use mathlib.Core.Path.{_≡_, sym, ap, _∙_}
+use mathlib.Core.Bool.{true, _&&_}
+use Prim.Native.Nat.{ℕ, _≤_, min, _+_}
+use native.Mathlib.Nat.{min-eq-left}
+use native.Mathlib.Omega.{arith}
+use lib.Dec.{leb}
+use lib.ListN.{length}
+use lib.Seq.{length-take-le}
+use borrow.Author.Tests.{leb-true}
+use Rattle.radix.specs.Radix.{maxSize, maxCount, Sizes, isWithin}
+use Rattle.radix.proofs.Tests.{and-left, and-right, small-of}
+use Rattle.shape.specs.Shape.{maxRank, sizesOf, countOf, goodShape}
+use Rattle.shape.specs.declared.Shape.{Shape}
+
+pub record Limits (s : Shape) : Type 0 where
+  pub rank : s .rank ≤ maxRank
+  pub room : s .rank ≤ length (s .sizes)
+  pub long : length (sizesOf s) ≡ s .rank
+  pub sizes : Sizes (sizesOf s)
+  pub count : countOf s ≤ maxCount
+
+-- the first rank places of the record
+pub prefix : (s : Shape) → length (s .sizes) ≡ maxRank → s .rank ≤ maxRank → (s .rank ≤ length (s .sizes)) × (length (sizesOf s) ≡ s .rank)
+prefix s six h = let g : s .rank ≤ length (s .sizes) = omega arith in (g, length-take-le (s .rank) (s .sizes) g)
+
+pub limits : (s : Shape) → length (s .sizes) ≡ maxRank → goodShape s ≡ true → Limits s
+unfolding goodShape
+limits s six e =
+    let r = leb-true (s .rank) maxRank (and-left (leb (s .rank) maxRank) (isWithin maxSize (sizesOf s) && leb (countOf s) maxCount) e) in
+    let t = and-right (leb (s .rank) maxRank) (isWithin maxSize (sizesOf s) && leb (countOf s) maxCount) e in
+    record {
+      rank = r;
+      room = prefix s six r .0;
+      long = prefix s six r .1;
+      sizes = small-of maxSize (sizesOf s) (omega arith) (and-left (isWithin maxSize (sizesOf s)) (leb (countOf s) maxCount) t);
+      count = leb-true (countOf s) maxCount (and-right (isWithin maxSize (sizesOf s)) (leb (countOf s) maxCount) t)
+    }
+
+-- the product with its limit is the element count
+pub whole : {s : Shape} (n : ℕ) → Limits s → n ≡ min (countOf s) (maxCount + 1) → n ≡ countOf s
+whole {s} n l e = e ∙ min-eq-left (omega (arith, l .count))

@@ -1,0 +1,104 @@
+-- `shape::element_point` meets its contract. Assumes nothing.
+use borrow.Author.Needs.{needs}
+use borrow.Author.Tests.{not-true, not-false, lt-ltb, le-ltb}
+use mathlib.Core.Path.{_≡_, sym, ap, _∙_, subst}
+use mathlib.Core.Bool.{true}
+use mathlib.Core.List.{List, _∷_, _++_}
+use lib.ListN.{length, replicate}
+use Rattle.radix.specs.Radix.{digits}
+use Rattle.radix.proofs.Lists.{drop-replicate}
+use Rattle.refusal.specs.Number.{done}
+use Prim.Native.Nat.{ℕ, _<_, _≤_, _-_}
+use native.Mathlib.Omega.{arith}
+use Rattle.shape.specs.Shape.{maxRank, goodShape, sizesOf, countOf}
+use Rattle.shape.specs.Answers.{locatedAnswer, elementPoint}
+use Rattle.shape.proofs.Limits.{Limits, limits, whole}
+use Rattle.shape.proofs.element_point.Statement.{statement}
+use Rattle.shape.proofs.element_point.Tie as tie
+
+good-shape-requires : tie.Need-good-shape-requires
+good-shape-requires c κs = search needs
+
+unlocated-requires : tie.Need-unlocated-requires
+unlocated-requires c κs = search needs
+
+returns : tie.Need-returns
+unfolding elementPoint
+returns c = ap locatedAnswer (c .unlocated .ensures) ∙ rw (sym (c .before .before .good-shape .ensures) ∙ not-true (c .before .before .good-shape .result) (c .before .if1 .taken))
+
+-- the shape keeps its limits
+kept : (c : tie.Else1) → goodShape (c .before .before .args .shape) ≡ true
+kept c = sym (c .before .good-shape .ensures) ∙ not-false (c .before .good-shape .result) (c .if1 .left)
+
+good : (c : tie.After-sizes) → Limits (c .before .before .before .args .shape)
+good c = limits (c .before .before .before .args .shape) (search needs) (kept (c .before))
+
+array-share-prefix-sizes : tie.Need-array-share-prefix-sizes
+array-share-prefix-sizes c = good c .room
+
+slice-aggregate-product : tie.Need-slice-aggregate-product
+slice-aggregate-product c = sym (good (c .before) .long)
+
+product-requires : tie.Need-product-requires
+product-requires c κs = good (c .before) .sizes
+
+-- the product is the element count
+count : (c : tie.After-product) → c .product .result ≡ countOf (c .before .before .before .before .before .args .shape)
+count c = whole _ (good (c .before .before)) (c .product .ensures)
+
+array-share-prefix-sizes-2 : tie.Need-array-share-prefix-sizes-2
+array-share-prefix-sizes-2 c = good (c .before .before .before) .room
+
+slice-aggregate-digits-into : tie.Need-slice-aggregate-digits-into
+slice-aggregate-digits-into c = sym (good (c .before .before .before .before) .long)
+
+slice-aggregate-digits-into-2 : tie.Need-slice-aggregate-digits-into-2
+slice-aggregate-digits-into-2 c = search needs
+
+digits-into-requires : tie.Need-digits-into-requires
+digits-into-requires c κs =
+    let t = c .before .before in
+    let g = good (t .before .before .before) in
+    let n = t .before .before .before .before .before .before .args .element .0 in
+    ((omega (arith, g .rank, g .long), g .count, subst (λ (k : ℕ). n < k) (count (t .before)) (t .if2 .taken)), g .sizes)
+
+unlocated-requires-2 : tie.Need-unlocated-requires-2
+unlocated-requires-2 c κs = search needs
+
+returns-2 : tie.Need-returns-2
+unfolding elementPoint
+returns-2 c =
+    let d = c .before in
+    let t = d .before .before .before in
+    let g = good (t .before .before .before) in
+    let n = t .before .before .before .before .before .before .args .element .0 in
+    rw (kept (t .before .before .before .before), lt-ltb _ _ (subst (λ (k : ℕ). n < k) (count (t .before)) (t .if2 .taken)))
+    (ap (λ (xs : List ℕ). done (t .before .before .before .before .before .before .args .shape .rank ∷ xs)) (d .digits-into .ensures
+      ∙ ap (λ (xs : List ℕ). digits (sizesOf (t .before .before .before .before .before .before .args .shape)) n ++ xs) (drop-replicate (length (sizesOf (t .before .before .before .before .before .before .args .shape))) maxRank 0
+        ∙ ap (λ (k : ℕ). replicate (maxRank - k) 0) (g .long))))
+
+returns-3 : tie.Need-returns-3
+unfolding elementPoint
+returns-3 c =
+    let t = c .before in
+    let n = t .before .before .before .before .before .before .args .element .0 in
+    ap locatedAnswer (c .unlocated2 .ensures)
+    ∙ rw (kept (t .before .before .before .before), le-ltb _ _ (subst (λ (k : ℕ). k ≤ n) (count (t .before)) (t .if2 .left)))
+
+pub element-point-spec : {M : Type 1} → statement M
+element-point-spec =
+    tie.close
+    (tie.spec
+    good-shape-requires
+    unlocated-requires
+    returns
+    array-share-prefix-sizes
+    slice-aggregate-product
+    product-requires
+    array-share-prefix-sizes-2
+    slice-aggregate-digits-into
+    slice-aggregate-digits-into-2
+    digits-into-requires
+    unlocated-requires-2
+    returns-2
+    returns-3)

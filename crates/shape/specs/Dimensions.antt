@@ -1,0 +1,40 @@
+-- Lists of dimensions: in range, free of repeats, a permutation. Assumes nothing.
+use Prim.Native.Nat.{ℕ}
+use mathlib.Core.Bool.{Bool, _&&_, cond}
+use mathlib.Core.List.{List, []}
+use lib.Dec.{ltb, leb, eqb}
+use lib.ListN.{length, getD}
+use Rattle.radix.specs.Radix.{every, first}
+use Rattle.refusal.specs.Number.{Answer, done, refusal}
+use Rattle.refusal.specs.declared.Refusal.the-variants.{Repeat}
+
+-- the first place of the dimension j in the list, or the list's length
+unfoldable pub place : ℕ → List ℕ → ℕ
+place j xs = first (λ (k : ℕ). eqb (getD xs k 0) j) (length xs)
+
+-- every dimension is below n
+unfoldable pub inRange : ℕ → List ℕ → Bool
+inRange n xs = every (λ (k : ℕ). ltb (getD xs k 0) n) (length xs)
+
+-- what stands at place k stands at an earlier place too
+abbrev pub repeats : List ℕ → ℕ → Bool
+repeats xs k = ltb (place (getD xs k 0) xs) k
+
+-- the later place of the first repeat, or the list's length
+unfoldable pub laterPlace : List ℕ → ℕ
+laterPlace xs = first (repeats xs) (length xs)
+
+-- the earlier place
+unfoldable pub earlierPlace : List ℕ → ℕ
+earlierPlace xs = place (getD xs (laterPlace xs) 0) xs
+
+abbrev pub free : List ℕ → Bool
+free xs = leb (length xs) (laterPlace xs)
+
+-- the first repeat refuses, with the earlier and the later place
+unfoldable pub firstRepeat : List ℕ → Answer ℕ
+firstRepeat xs = cond (free xs) (done []) (refusal [] (Repeat (earlierPlace xs) (laterPlace xs)))
+
+-- a permutation of the numbers below the length: in range and free of repeats
+unfoldable pub isPermutation : List ℕ → Bool
+isPermutation xs = inRange (length xs) xs && free xs

@@ -1,0 +1,3 @@
+pub mod Shape
+pub mod Dimensions
+pub mod Answers
