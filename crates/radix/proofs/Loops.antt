@@ -7,7 +7,7 @@ use native.Mathlib.Omega.{arith}
 use mathlib.Core.List.{List, [], _∷_, _++_, append-assoc, append-nil}
 use lib.ListN.{length, getD, take, drop, drop-of-length-le, length-drop, set}
 use lib.Seq.{drop-cons, getD-drop, take-suc-set}
-use Rattle.radix.specs.Radix.{prod, rowMajor, digits, In, more, Sizes}
+use Rattle.radix.specs.Radix.{prod, rowMajor, digits, In, more, Sizes, Bounded}
 use Rattle.radix.proofs.Radix.{in-drop, in-length, below}
 
 pub prod-rest : (ds : List ℕ) (acc i : ℕ) → i < length ds → acc * prod (drop i ds) ≡ acc * getD ds i 0 * prod (drop (i + 1) ds)
@@ -22,7 +22,7 @@ prod-pos (d ∷ ds) h = mul-pos (h 0 (omega arith)) (prod-pos ds (λ k l. h (suc
 
 -- what is left of small sizes has a product of at least 1
 pub rest-pos : (ds : List ℕ) (i : ℕ) → Sizes ds → 0 < prod (drop i ds)
-unfolding Sizes
+unfolding Bounded
 rest-pos ds i s = prod-pos (drop i ds) (λ k l. rw (getD-drop) (s (i + k) (omega (arith, length-drop i ds)) .0))
 
 -- what the row-major loop has still to reach, at acc with the index es inside ds left

@@ -10,7 +10,7 @@ use lib.ListN.{length, getD, drop, drop-of-length-le, List·getD-eq-default}
 use lib.Dec.{ltb, leb}
 use borrow.Author.Tests.{lt-ltb, ltb-true, leb-true, leb-false, le-leb, lt-leb}
 use native.Mathlib.Nat.{min-eq-left, min-eq-right}
-use Rattle.radix.specs.Radix.{maxSize, maxCount, every, first, isWithin, isInside, Sizes, Upto, In, none, more}
+use Rattle.radix.specs.Radix.{maxCount, every, first, isWithin, isInside, Bounded, Upto, In, none, more}
 use Rattle.radix.proofs.Lists.{le-or-lt, rest-of}
 
 pub and-true : {a b : Bool} → a ≡ true → b ≡ true → (a && b) ≡ true
@@ -62,6 +62,7 @@ first-true f (suc n) l = go (first-true (λ (k : ℕ). f (suc k)) n) (f 0) refl 
   where
     next : ℕ
     next = first (λ (k : ℕ). f (suc k)) n
+
     go : (next < n → f (suc next) ≡ true) → (b : Bool) → f 0 ≡ b → cond b 0 (suc next) < suc n → f (cond b 0 (suc next)) ≡ true
     go ih true e l = e
     go ih false e l = ih (le-of-suc-le-suc l)
@@ -72,39 +73,45 @@ first-before f (suc n) j l = go (first-before (λ (k : ℕ). f (suc k)) n) (f 0)
   where
     next : ℕ
     next = first (λ (k : ℕ). f (suc k)) n
+
     go : ((j : ℕ) → j < next → f (suc j) ≡ false) → (b : Bool) → f 0 ≡ b → (j : ℕ) → j < cond b 0 (suc next) → f j ≡ false
     go ih true e j l = absurd (not-suc-le-zero l)
     go ih false e zero l = e
     go ih false e (suc j) l = ih j (le-of-suc-le-suc l)
 
--- sizes that pass the test are small
-pub small-of : (hi : ℕ) (ds : List ℕ) → hi ≤ maxSize → isWithin hi ds ≡ true → Sizes ds
-unfolding Sizes isWithin
-small-of hi ds h e k l =
-    let t = every-at (λ (k : ℕ). leb 1 (getD ds k 0) && leb (getD ds k 0) hi) (length ds) e k l in
-    (leb-true 1 (getD ds k 0) (and-left (leb 1 (getD ds k 0)) (leb (getD ds k 0) hi) t), omega (arith, leb-true (getD ds k 0) hi (and-right (leb 1 (getD ds k 0)) (leb (getD ds k 0) hi) t)))
+-- a list that passes the test is bounded
+pub bounded-of : (most : ℕ) (ds : List ℕ) → isWithin most ds ≡ true → Bounded most ds
+unfolding Bounded isWithin
+bounded-of most ds e k l =
+    let t = every-at (λ (k : ℕ). leb 1 (getD ds k 0) && leb (getD ds k 0) most) (length ds) e k l in
+    (leb-true 1 (getD ds k 0) (and-left (leb 1 (getD ds k 0)) (leb (getD ds k 0) most) t), leb-true (getD ds k 0) most (and-right (leb 1 (getD ds k 0)) (leb (getD ds k 0) most) t))
 
--- a product that stops at 2^40 + 1 says whether the product is at most 2^40
-pub capped : (x : ℕ) → leb (min x (maxCount + 1)) (maxCount) ≡ leb x (maxCount)
-capped x = go (leb x (maxCount)) refl
-  where
-    go : (b : Bool) → leb x (maxCount) ≡ b → leb (min x (maxCount + 1)) (maxCount) ≡ leb x (maxCount)
-    go true t = ap (λ (y : ℕ). leb y (maxCount)) (min-eq-left {n = x} {m = maxCount + 1} (omega (arith, leb-true x (maxCount) t)))
-    go false t = ap (λ (y : ℕ). leb y (maxCount)) (min-eq-right {m = x} (omega (arith, leb-false x (maxCount) t))) ∙ sym t
+pub bounded-up : (a b : ℕ) (ds : List ℕ) → a ≤ b → Bounded a ds → Bounded b ds
+unfolding Bounded
+bounded-up a b ds h s k l = (s k l .0, omega (arith, s k l .1))
 
-pub under-cap : (x r : ℕ) → r ≡ min x (maxCount + 1) → r ≤ maxCount → x ≤ maxCount
-under-cap x r e h = leb-true x (maxCount) (sym (capped x) ∙ ap (λ (y : ℕ). leb y (maxCount)) (sym e) ∙ le-leb r (maxCount) h)
-
-pub over-cap : (x r : ℕ) → r ≡ min x (maxCount + 1) → maxCount < r → maxCount < x
-over-cap x r e h = leb-false x (maxCount) (sym (capped x) ∙ ap (λ (y : ℕ). leb y (maxCount)) (sym e) ∙ lt-leb r (maxCount) h)
-
-pub upto-of : (hi : ℕ) (ds : List ℕ) → isWithin hi ds ≡ true → Upto hi ds
-unfolding Upto isWithin
-upto-of hi ds e k =
+-- a bounded list has no entry above the bound
+pub upto-bounded : (b : ℕ) (ds : List ℕ) → Bounded b ds → Upto b ds
+unfolding Upto Bounded
+upto-bounded b ds s k =
     ⊎-elim
     (λ (l : length ds ≤ k). omega (arith, List·getD-eq-default ds 0 l))
-    (λ (l : k < length ds). leb-true (getD ds k 0) hi (and-right (leb 1 (getD ds k 0)) (leb (getD ds k 0) hi) (every-at (λ (k : ℕ). leb 1 (getD ds k 0) && leb (getD ds k 0) hi) (length ds) e k l)))
+    (λ (l : k < length ds). s k l .1)
     (le-or-lt (length ds) k)
+
+-- a product that stops at 2^40 + 1 says whether the product is at most 2^40
+pub capped : (x : ℕ) → leb (min x (maxCount + 1)) maxCount ≡ leb x maxCount
+capped x = go (leb x maxCount) refl
+  where
+    go : (b : Bool) → leb x maxCount ≡ b → leb (min x (maxCount + 1)) maxCount ≡ leb x maxCount
+    go true t = ap (λ (y : ℕ). leb y maxCount) (min-eq-left {n = x} {m = maxCount + 1} (omega (arith, leb-true x maxCount t)))
+    go false t = ap (λ (y : ℕ). leb y maxCount) (min-eq-right {m = x} (omega (arith, leb-false x maxCount t))) ∙ sym t
+
+pub under-cap : (x r : ℕ) → r ≡ min x (maxCount + 1) → r ≤ maxCount → x ≤ maxCount
+under-cap x r e h = leb-true x maxCount (sym (capped x) ∙ ap (λ (y : ℕ). leb y maxCount) (sym e) ∙ le-leb r maxCount h)
+
+pub over-cap : (x r : ℕ) → r ≡ min x (maxCount + 1) → maxCount < r → maxCount < x
+over-cap x r e h = leb-false x maxCount (sym (capped x) ∙ ap (λ (y : ℕ). leb y maxCount) (sym e) ∙ lt-leb r maxCount h)
 
 -- the test of an index, at place i
 pub inside-at : (es ds : List ℕ) (i : ℕ) → i < length es → i < length ds → isInside (drop i es) (drop i ds) ≡ (ltb (getD es i 0) (getD ds i 0) && isInside (drop (i + 1) es) (drop (i + 1) ds))

@@ -58,9 +58,13 @@ pub data In : List ℕ → List ℕ → Type 0 where
   none : In [] []
   more : {e d : ℕ} {es ds : List ℕ} → e < d → In es ds → In (e ∷ es) (d ∷ ds)
 
--- every size of ds is from 1 to 2^20
-unfoldable pub Sizes : List ℕ → Type 0
-Sizes ds = (k : ℕ) → k < length ds → (0 < getD ds k 0) × (getD ds k 0 ≤ maxSize)
+-- every entry of ds is from 1 to most
+unfoldable pub Bounded : ℕ → List ℕ → Type 0
+Bounded most ds = (k : ℕ) → k < length ds → (0 < getD ds k 0) × (getD ds k 0 ≤ most)
+
+-- sizes, each from 1 to 2^20
+abbrev pub Sizes : List ℕ → Type 0
+Sizes ds = Bounded maxSize ds
 
 -- no entry of xs is above b
 unfoldable pub Upto : ℕ → List ℕ → Type 0

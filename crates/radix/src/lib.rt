@@ -7,6 +7,7 @@ ghost use Rattle.radix.specs.Radix.{maxCount, prod, rowMajor, digits, is
 
 // The largest size, and the largest count of elements or cells.
 pub const MAX_SIZE: u64 = 1048576;
+
 pub const MAX_COUNT: u64 = 1099511627776;
 // Stands for every count above that.
 pub const ABOVE_COUNT: u64 = 1099511627777;

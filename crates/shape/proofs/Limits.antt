@@ -1,5 +1,5 @@
 -- What a shape that keeps its limits gives. Assumes nothing.
-use mathlib.Core.Path.{_≡_, sym, ap, _∙_}
+use mathlib.Core.Path.{_≡_, _∙_}
 use mathlib.Core.Bool.{true, _&&_}
 use Prim.Native.Nat.{ℕ, _≤_, min, _+_}
 use native.Mathlib.Nat.{min-eq-left}
@@ -9,7 +9,7 @@ use lib.ListN.{length}
 use lib.Seq.{length-take-le}
 use borrow.Author.Tests.{leb-true}
 use Rattle.radix.specs.Radix.{maxSize, maxCount, Sizes, isWithin}
-use Rattle.radix.proofs.Tests.{and-left, and-right, small-of}
+use Rattle.radix.proofs.Tests.{and-left, and-right, bounded-of}
 use Rattle.shape.specs.Shape.{maxRank, sizesOf, countOf, goodShape}
 use Rattle.shape.specs.declared.Shape.{Shape}
 
@@ -33,8 +33,8 @@ limits s six e =
       rank = r;
       room = prefix s six r .0;
       long = prefix s six r .1;
-      sizes = small-of maxSize (sizesOf s) (omega arith) (and-left (isWithin maxSize (sizesOf s)) (leb (countOf s) maxCount) t);
-      count = leb-true (countOf s) maxCount (and-right (isWithin maxSize (sizesOf s)) (leb (countOf s) maxCount) t)
+      sizes = bounded-of maxSize (sizesOf s) (and-left (isWithin maxSize (sizesOf s)) (leb (countOf s) maxCount) t);
+      count = leb-true (countOf s) maxCount (and-right (isWithin maxSize (sizesOf s)) (leb (countOf s) maxCount) t);
     }
 
 -- the product with its limit is the element count

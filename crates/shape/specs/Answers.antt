@@ -50,7 +50,7 @@ locatedAnswer r =
     record {
       number = verdictAnswer (r .verdict) .number;
       values = r .point .rank ∷ r .point .coordinates;
-      places = verdictAnswer (r .verdict) .places
+      places = verdictAnswer (r .verdict) .places;
     }
 
 abbrev pub unlocatedOf : Refusal → Located

@@ -1,5 +1,5 @@
 -- Lists of dimensions: in range, free of repeats, a permutation. Assumes nothing.
-use Prim.Native.Nat.{ℕ}
+use Prim.Native.Nat.{ℕ, _<_}
 use mathlib.Core.Bool.{Bool, _&&_, cond}
 use mathlib.Core.List.{List, []}
 use lib.Dec.{ltb, leb, eqb}
@@ -38,3 +38,8 @@ firstRepeat xs = cond (free xs) (done []) (refusal [] (Repeat (earlierPlace xs) 
 -- a permutation of the numbers below the length: in range and free of repeats
 unfoldable pub isPermutation : List ℕ → Bool
 isPermutation xs = inRange (length xs) xs && free xs
+
+-- the same as a fact: every number below the length has its place, and nothing else stands there
+pub record Permutation (xs : List ℕ) : Type 0 where
+  pub inside : (k : ℕ) → k < length xs → getD xs k 0 < length xs
+  pub onto : (j : ℕ) → j < length xs → place j xs < length xs

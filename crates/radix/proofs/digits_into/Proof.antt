@@ -6,7 +6,7 @@ use native.Mathlib.Omega.{arith}
 use native.Mathlib.Nat.{min-eq-left}
 use denote.Ref.{now}
 use lib.ListN.{length, drop, getD, take, set, take-append-drop}
-use Rattle.radix.specs.Radix.{prod, digits, Sizes}
+use Rattle.radix.specs.Radix.{prod, digits, Bounded}
 use Rattle.radix.proofs.Lists.{rest-next}
 use Rattle.radix.proofs.Loops.{rest-pos, digits-next, digits-end, prod-step}
 use Rattle.radix.proofs.digits_into.Statement.{statement}
@@ -31,7 +31,7 @@ shared-slice-read-p : tie.Need-shared-slice-read-p Inv-loop μ-loop
 shared-slice-read-p c = search needs
 
 size-pos : (c : tie.In-loop Inv-loop μ-loop) → 0 < getD (now (c .before .before .before .before .before .args .ds)) (c .before .loop .i) 0
-unfolding Sizes
+unfolding Bounded
 size-pos c = c .before .before .before .before .before .pre .1 (c .before .loop .i) (c .loop-test .taken) .0
 
 -- what the division leaves is the product of the sizes after i
@@ -67,12 +67,15 @@ loop-less c = search needs
 loop-again : tie.Need-loop-again Inv-loop μ-loop
 loop-again c =
     let l = c .before .before .loop in
-    let ds = now (c .before .before .before .before .before .before .args .ds) in
-    (search needs, search needs, step (c .before),
-    ap (λ (q : ℕ). take (l .i + 1) (set (l .out) (l .i) (l .k / q)) ++ digits (drop (l .i + 1) ds) (l .k % q)) (step (c .before))
-    ∙ digits-next ds (l .out) (l .i) (l .k) (c .before .loop-test .taken) (omega arith)
-    ∙ l .inv .3,
-    rest-next (l .out) (now (c .before .before .before .before .before .before .args .out)) (l .i) _ (l .inv .4))
+    let ds = now (c .before .before .before .before .before .before .args .ds) in (
+      search needs,
+      search needs,
+      step (c .before),
+      ap (λ (q : ℕ). take (l .i + 1) (set (l .out) (l .i) (l .k / q)) ++ digits (drop (l .i + 1) ds) (l .k % q)) (step (c .before))
+          ∙ digits-next ds (l .out) (l .i) (l .k) (c .before .loop-test .taken) (omega arith)
+          ∙ l .inv .3,
+      rest-next (l .out) (now (c .before .before .before .before .before .before .args .out)) (l .i) _ (l .inv .4),
+    )
 
 same-length : tie.Need-same-length Inv-loop μ-loop
 same-length c = search needs

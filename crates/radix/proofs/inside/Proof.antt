@@ -33,7 +33,7 @@ shared-slice-read-if1-2 : tie.Need-shared-slice-read-if1-2 Inv-loop μ-loop
 shared-slice-read-if1-2 c = search needs
 
 returns : tie.Need-returns Inv-loop μ-loop
-returns c = 
+returns c =
     let l = c .before .before .before .before in
     let a = l .before .args in
     sym (ap (λ (b : Bool). b && isInside (drop (l .loop .i + 1) (now (a .es))) (drop (l .loop .i + 1) (now (a .ds)))) (le-ltb (getD (now (a .es)) (l .loop .i) 0) (getD (now (a .ds)) (l .loop .i) 0) (c .if1 .taken)))
@@ -46,15 +46,16 @@ loop-less : tie.Need-loop-less Inv-loop μ-loop
 loop-less c = search needs
 
 loop-again : tie.Need-loop-again Inv-loop μ-loop
-loop-again c = 
+loop-again c =
     let l = c .before .before .before .before in
-    let a = l .before .args in
-    (search needs,
-    sym (ap (λ (b : Bool). b && isInside (drop (l .loop .i + 1) (now (a .es))) (drop (l .loop .i + 1) (now (a .ds)))) (lt-ltb (getD (now (a .es)) (l .loop .i) 0) (getD (now (a .ds)) (l .loop .i) 0) (c .if1 .left)))
-    ∙ sym (inside-at (now (a .es)) (now (a .ds)) (l .loop .i) (c .before .before .before .loop-test .taken) (omega (arith, c .before .before .before .loop-test .taken, l .before .pre))) ∙ l .loop .inv .1)
+    let a = l .before .args in (
+      search needs,
+      sym (ap (λ (b : Bool). b && isInside (drop (l .loop .i + 1) (now (a .es))) (drop (l .loop .i + 1) (now (a .ds)))) (lt-ltb (getD (now (a .es)) (l .loop .i) 0) (getD (now (a .ds)) (l .loop .i) 0) (c .if1 .left)))
+          ∙ sym (inside-at (now (a .es)) (now (a .ds)) (l .loop .i) (c .before .before .before .loop-test .taken) (omega (arith, c .before .before .before .loop-test .taken, l .before .pre))) ∙ l .loop .inv .1,
+    )
 
 returns-2 : tie.Need-returns-2 Inv-loop μ-loop
-returns-2 c = 
+returns-2 c =
     let l = c .before in
     let a = l .before .args in
     sym (inside-end (now (a .es)) (now (a .ds)) (l .loop .i) (c .loop-test .left) (omega (arith, c .loop-test .left, l .before .pre))) ∙ l .loop .inv .1

@@ -6,7 +6,7 @@ use native.Mathlib.Nat.{one-mul, mul-le-mul, le-mul-of-pos-right, min-eq-left, m
 use mir.Facts.{fits-le, fits-lit}
 use denote.Ref.{now}
 use lib.ListN.{length, drop, getD}
-use Rattle.radix.specs.Radix.{maxCount, prod, Sizes}
+use Rattle.radix.specs.Radix.{maxCount, prod, Bounded}
 use Rattle.radix.proofs.Loops.{prod-rest, prod-end, rest-pos}
 use Rattle.radix.proofs.product.Statement.{statement}
 use Rattle.radix.proofs.product.Tie as tie
@@ -27,7 +27,7 @@ shared-slice-read-acc : tie.Need-shared-slice-read-acc Inv-loop μ-loop
 shared-slice-read-acc c = search needs
 
 mul-acc-2 : tie.Need-mul-acc-2 Inv-loop μ-loop
-unfolding Sizes
+unfolding Bounded
 mul-acc-2 c =
     fits-le (mul-le-mul (c .before .before .loop .inv .1) (c .before .before .before .pre (c .before .before .loop .i) (c .before .loop-test .taken) .1)) (fits-lit tt)
 

@@ -63,10 +63,11 @@ loop-less c = search needs
 loop-again : tie.Need-loop-again Inv-loop μ-loop
 loop-again c =
     let l = c .before .before .before .before .before in
-    let a = l .before .args in
-    (search needs,
-    below-more (λ (k : ℕ). ok (a .most) (now (a .xs)) k ≡ true) (l .loop .i) (l .loop .inv .1)
-    (and-true (le-leb 1 (getD (now (a .xs)) (l .loop .i) 0) (c .before .before .if1 .left)) (le-leb (getD (now (a .xs)) (l .loop .i) 0) (a .most) (c .if2 .left))))
+    let a = l .before .args in (
+      search needs,
+      below-more (λ (k : ℕ). ok (a .most) (now (a .xs)) k ≡ true) (l .loop .i) (l .loop .inv .1)
+          (and-true (le-leb 1 (getD (now (a .xs)) (l .loop .i) 0) (c .before .before .if1 .left)) (le-leb (getD (now (a .xs)) (l .loop .i) 0) (a .most) (c .if2 .left))),
+    )
 
 returns-3 : tie.Need-returns-3 Inv-loop μ-loop
 unfolding isWithin

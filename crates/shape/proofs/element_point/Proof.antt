@@ -74,8 +74,8 @@ returns-2 c =
     let n = t .before .before .before .before .before .before .args .element .0 in
     rw (kept (t .before .before .before .before), lt-ltb _ _ (subst (λ (k : ℕ). n < k) (count (t .before)) (t .if2 .taken)))
     (ap (λ (xs : List ℕ). done (t .before .before .before .before .before .before .args .shape .rank ∷ xs)) (d .digits-into .ensures
-      ∙ ap (λ (xs : List ℕ). digits (sizesOf (t .before .before .before .before .before .before .args .shape)) n ++ xs) (drop-replicate (length (sizesOf (t .before .before .before .before .before .before .args .shape))) maxRank 0
-        ∙ ap (λ (k : ℕ). replicate (maxRank - k) 0) (g .long))))
+    ∙ ap (λ (xs : List ℕ). digits (sizesOf (t .before .before .before .before .before .before .args .shape)) n ++ xs) (drop-replicate (length (sizesOf (t .before .before .before .before .before .before .args .shape))) maxRank 0
+    ∙ ap (λ (k : ℕ). replicate (maxRank - k) 0) (g .long))))
 
 returns-3 : tie.Need-returns-3
 unfolding elementPoint

@@ -8,7 +8,7 @@ use lib.Dec.{leb}
 use borrow.Author.Tests.{lt-leb, le-leb}
 use Rattle.radix.specs.Radix.{maxSize, maxCount, isWithin}
 use Rattle.shape.specs.Shape.{maxRank, goodShape, sizesOf, countOf}
-use Rattle.radix.proofs.Tests.{and-false, small-of, capped}
+use Rattle.radix.proofs.Tests.{and-false, bounded-of, capped}
 use Rattle.shape.proofs.Limits.{prefix}
 use Rattle.shape.proofs.good_shape.Statement.{statement}
 use Rattle.shape.proofs.good_shape.Tie as tie
@@ -21,7 +21,7 @@ returns : tie.Need-returns
 unfolding goodShape
 returns c =
     let s = c .before .args .shape in
-    sym (ap (λ (b : Bool). b && (isWithin (maxSize) (sizesOf s) && leb (countOf s) (maxCount))) (lt-leb (s .rank) maxRank (c .if1 .taken)))
+    sym (ap (λ (b : Bool). b && (isWithin maxSize (sizesOf s) && leb (countOf s) maxCount)) (lt-leb (s .rank) maxRank (c .if1 .taken)))
 
 array-share-prefix-sizes : tie.Need-array-share-prefix-sizes
 array-share-prefix-sizes c = len (c .before) .0
@@ -41,21 +41,21 @@ slice-aggregate-product c = sym (len (c .before .before .before .before .before)
 product-requires : tie.Need-product-requires
 product-requires c κs =
     let s = c .before .before .before .before .before .before .args .shape in
-    small-of (maxSize) (sizesOf s) (search needs) (sym (c .before .before .within .ensures) ∙ c .before .if2 .taken)
+    bounded-of maxSize (sizesOf s) (sym (c .before .before .within .ensures) ∙ c .before .if2 .taken)
 
 returns-2 : tie.Need-returns-2
 unfolding goodShape
 returns-2 c =
     let s = c .before .before .before .before .before .before .before .args .shape in
-    ap (λ (x : ℕ). leb x (maxCount)) (c .product .ensures) ∙ capped (countOf s)
-    ∙ sym (ap (λ (b : Bool). b && (isWithin (maxSize) (sizesOf s) && leb (countOf s) (maxCount))) (le-leb (s .rank) maxRank (c .before .before .before .before .before .before .if1 .left))
-      ∙ ap (λ (b : Bool). b && leb (countOf s) (maxCount)) (sym (c .before .before .before .within .ensures) ∙ c .before .before .if2 .taken))
+    ap (λ (x : ℕ). leb x maxCount) (c .product .ensures) ∙ capped (countOf s)
+    ∙ sym (ap (λ (b : Bool). b && (isWithin maxSize (sizesOf s) && leb (countOf s) maxCount)) (le-leb (s .rank) maxRank (c .before .before .before .before .before .before .if1 .left))
+    ∙ ap (λ (b : Bool). b && leb (countOf s) maxCount) (sym (c .before .before .before .within .ensures) ∙ c .before .before .if2 .taken))
 
 returns-3 : tie.Need-returns-3
 unfolding goodShape
 returns-3 c =
     let s = c .before .before .before .before .before .args .shape in
-    sym (and-false (leb (s .rank) maxRank) (ap (λ (b : Bool). b && leb (countOf s) (maxCount)) (sym (c .before .within .ensures) ∙ c .if2 .left)))
+    sym (and-false (leb (s .rank) maxRank) (ap (λ (b : Bool). b && leb (countOf s) maxCount) (sym (c .before .within .ensures) ∙ c .if2 .left)))
 
 pub good-shape-spec : {M : Type 1} → statement M
 good-shape-spec =

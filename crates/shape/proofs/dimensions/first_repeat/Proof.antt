@@ -73,7 +73,7 @@ returns c =
     ⊎-elim
     (λ w. absurd (omega (arith, w .0 .left, c .if2 .taken)))
     (λ w. subst (λ (e : ℕ). refusal {A = ℕ} [] (Repeat e (s .search .later)) ≡ firstRepeat xs) (sym (w .6))
-      (repeat-found xs (w .1 .earlier) (s .search .later) (w .2 .taken) (w .0 .taken) (w .5 .taken) (w .1 .inv .1) (s .search .inv .1)))
+    (repeat-found xs (w .1 .earlier) (s .search .later) (w .2 .taken) (w .0 .taken) (w .5 .taken) (w .1 .inv .1) (s .search .inv .1)))
     (c .before .search-test .came)
 
 returns-2 : tie.Need-returns-2 Inv-loop μ-loop Inv-search μ-search

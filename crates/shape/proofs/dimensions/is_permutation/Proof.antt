@@ -1,6 +1,6 @@
 -- `shape::dimensions::is_permutation` meets its contract. Assumes nothing.
 use borrow.Author.Needs.{needs}
-use mathlib.Core.Path.{_≡_, sym, ap, _∙_}
+use mathlib.Core.Path.{sym, ap, _∙_}
 use Rattle.refusal.specs.Number.{verdictAnswer}
 use Rattle.shape.specs.Dimensions.{isPermutation}
 use Rattle.shape.proofs.Repeats.{free-done, free-refused}

@@ -1,0 +1,6 @@
+pub mod Tile
+pub mod Cell
+pub mod Layout
+pub mod Ready
+pub mod Share
+pub mod Answers
