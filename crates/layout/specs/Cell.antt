@@ -19,6 +19,11 @@ abbrev pub unindex : List (List ℕ) → ℕ → List ℕ → List ℕ
 unindex [] n fs = fs
 unindex (ts ∷ tss) n fs = untile ts (n - length ts) (unindex tss (n + length ts) fs)
 
+-- how many entries the tiles have
+abbrev pub entries : List (List ℕ) → ℕ
+entries [] = 0
+entries (ts ∷ tss) = length ts + entries tss
+
 -- the order p undone: at dimension j what stands at j's place in p
 abbrev pub ungather : List ℕ → List ℕ → List ℕ
 ungather p ys = tab (λ (j : ℕ). getD ys (place j p) 0) (length p)

@@ -1,4 +1,5 @@
 // Tiled layouts.
+mod cell;
 mod physical;
 
 use refusal::Refusal;
