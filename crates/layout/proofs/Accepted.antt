@@ -20,64 +20,13 @@ use Rattle.shape.specs.declared.Shape.{Shape}
 use Rattle.shape.proofs.Limits.{Limits, limits}
 use Rattle.shape.proofs.Repeats.{place-at}
 use Rattle.shape.proofs.Permutations.{permutation-of, place-le}
-use Rattle.layout.specs.Tile.{gather, reversed, physical, padded}
-use Rattle.layout.specs.Layout.{maxTiles, maxEntries, maxEntry, tilesFrom, minorToMajor, orderOf, lensOf, tilesOf, areTiles, goodLayout, paddedOf, layoutRules}
-use Rattle.layout.specs.Ready.{Under, Levels, Shaped, Ready}
-use Rattle.layout.specs.declared.Layout.{Layout}
-use Rattle.layout.proofs.Tiling.{Pos, all, one, Tiles, flat, tiled}
-use Rattle.layout.proofs.OwnCells.{Valid}
-use Rattle.layout.proofs.Levels.{small-tiling, small-gather}
-
-bounded-pos : (most : ℕ) (ts : List ℕ) → Bounded most ts → Pos ts
-unfolding Bounded
-bounded-pos most [] s = all
-bounded-pos most (t ∷ ts) s = one (s 0 (omega arith) .0) (bounded-pos most ts (λ k l. s (suc k) (omega arith)))
-
-levels-tiles : (lens fl : List ℕ) (n : ℕ) → Levels lens fl n → Tiles (tilesFrom lens fl) n
-levels-tiles [] fl n v = flat
-levels-tiles (m ∷ lens) fl n v =
-    let e : length (take m fl) ≡ m = length-take-le m fl (omega (arith, v .0, v .2)) in
-    tiled {n = n} (bounded-pos maxEntry (take m fl) (v .3)) (omega (arith, e, v .1))
-    (subst (λ (k : ℕ). Tiles (tilesFrom lens (drop maxEntries fl)) (n + k)) (sym e) (levels-tiles lens (drop maxEntries fl) (n + m) (v .4)))
-
--- what the lists of an accepted shape and layout give
-module _ {sizes p lens fl : List ℕ} (s : Shaped sizes p lens fl) where
-  pub shaped-valid : Valid sizes p (tilesFrom lens fl)
-  shaped-valid = record { perm = s .perm; rank = s .rank; tiles = levels-tiles lens fl (length p) (s .levels) }
-
-  pub shaped-under : (n : ℕ) → n ≡ length sizes → Under n p
-  unfolding Under
-  shaped-under n e k l = omega (arith, s .perm .inside k l, s .rank)
-
-  pub shaped-small : Sizes (physical sizes p (tilesFrom lens fl))
-  unfolding physical
-  shaped-small =
-      small-tiling lens fl (gather p sizes) (length p) (s .levels) (length-map p (λ (d : ℕ). getD sizes d 0)) (small-gather p sizes (shaped-under (length sizes) refl) (s .small))
-
--- a permutation read from its end is one
-pub reversed-permutation : (m : List ℕ) → Permutation m → Permutation (reversed m)
-reversed-permutation m p = record { inside = inside; onto = onto }
-  where
-    long : length (reversed m) ≡ length m
-    long = length-tab _ (length m)
-
-    at : (k : ℕ) → k < length m → getD (reversed m) k 0 ≡ getD m (length m - (k + 1)) 0
-    at k h = getD-tab (λ (k : ℕ). getD m (length m - (k + 1)) 0) (length m) k 0 h
-
-    inside : (k : ℕ) → k < length (reversed m) → getD (reversed m) k 0 < length (reversed m)
-    inside k h =
-        let e = at k (omega (arith, long)) in
-        let g = p .inside (length m - (k + 1)) (omega (arith, long)) in
-        omega (arith, long, e, g)
-
-    onto : (j : ℕ) → j < length (reversed m) → place j (reversed m) < length (reversed m)
-    onto j h =
-        let i = place j m in
-        let l = p .onto j (omega (arith, long)) in
-        let k : ℕ = length m - (i + 1) in
-        let b : length m - (k + 1) ≡ i = omega arith in
-        let e : getD (reversed m) k 0 ≡ j = at k (omega arith) ∙ ap (λ (n : ℕ). getD m n 0) b ∙ place-at j m l in
-        omega (arith, long, place-le j (reversed m) k e)
+use Rattle.tiling.specs.Tile.{gather, reversed, physical, padded}
+use Rattle.tiling.specs.Tile.{maxTiles, maxEntries, maxEntry, tilesFrom, minorToMajor, orderOf, lensOf, tilesOf, areTiles, goodLayout, paddedOf, layoutRules}
+use Rattle.tiling.specs.Ready.{Under, Levels, Shaped, Ready}
+use Rattle.tiling.specs.declared.Layout.{Layout}
+use Rattle.tiling.proofs.Tiling.{Pos, all, one, Tiles, flat, tiled}
+use Rattle.tiling.proofs.OwnCells.{Valid}
+use Rattle.tiling.proofs.Levels.{small-tiling, small-gather}
 
 levels-of : (lens fl : List ℕ) (n : ℕ) → maxEntries * length lens ≤ length fl → areTiles n lens fl ≡ true → Levels lens fl n
 levels-of [] fl n h e = tt

@@ -14,24 +14,6 @@ use Rattle.layout.specs.Tile.{reversed, padded, offset, offsetAt}
 use Rattle.layout.specs.Cell.{Cell, cell}
 use Rattle.layout.specs.declared.Layout.{Layout}
 
--- the most tiles of a layout, entries of a tile, and value of an entry; and the most physical dimensions
-abbrev pub maxTiles : ℕ
-maxTiles = 3
-
-abbrev pub maxEntries : ℕ
-maxEntries = 6
-
-abbrev pub maxEntry : ℕ
-maxEntry = 1024
-
-abbrev pub maxPhysical : ℕ
-maxPhysical = maxRank + maxEntries * maxTiles
-
--- the tiles of a record, whose entries lie in one list, maxEntries places to a tile
-abbrev pub tilesFrom : List ℕ → List ℕ → List (List ℕ)
-tilesFrom [] flat = []
-tilesFrom (m ∷ lens) flat = take m flat ∷ tilesFrom lens (drop maxEntries flat)
-
 -- the lists of a record, up to its counts
 abbrev pub minorToMajor : Layout → List ℕ
 minorToMajor l = take (l .rank) (l .«minor_to_major»)

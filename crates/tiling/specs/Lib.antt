@@ -1,0 +1,4 @@
+pub mod Tile
+pub mod Cell
+pub mod Ready
+pub mod Found
