@@ -1,6 +1,3 @@
-pub mod Tiling
-pub mod Entries
-pub mod OwnCells
-pub mod Levels
-pub mod Undo
 pub mod Accepted
+pub mod Rules
+pub mod Ratio

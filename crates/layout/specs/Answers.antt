@@ -2,16 +2,16 @@
 use Prim.Native.Nat.{ℕ}
 use mathlib.Core.Bool.{_&&_}
 use mathlib.Core.List.{List, [], _∷_, _++_}
-use lib.Dec.{ltb, leb, eqb}
+use lib.Dec.{ltb, leb}
 use lib.Ieee.{Float}
-use lib.ListN.{length}
-use Rattle.radix.specs.Radix.{maxCount, isInside}
+use Rattle.radix.specs.Radix.{maxCount}
 use Rattle.refusal.specs.Number.{Answer, done, refusal, answered}
 use Rattle.refusal.specs.Judge.{Rule, rule, judge}
-use Rattle.refusal.specs.declared.Refusal.the-variants.{ShapeLimits, Attribute, LayoutRule, PaddedSize, Outside, WrongLength}
-use Rattle.shape.specs.Shape.{sizesOf, countOf, goodShape}
+use Rattle.refusal.specs.declared.Refusal.the-variants.{ShapeLimits, Attribute, LayoutRule, PaddedSize, Outside}
+use Rattle.shape.specs.Shape.{countOf, goodShape}
+use Rattle.shape.specs.Answers.{insideRules}
 use Rattle.shape.specs.declared.Shape.{Shape}
-use Rattle.layout.specs.Cell.{Cell, holds, padding}
+use Rattle.tiling.specs.Cell.{Cell, holds, padding}
 use Rattle.layout.specs.Layout.{goodLayout, paddedOf, offsetOf, pointOffsetOf, cellOf, layoutRules}
 use Rattle.layout.specs.Share.{shareOf, cardOf, fitOf}
 use Rattle.layout.specs.declared.Layout.{Layout}
@@ -50,8 +50,7 @@ elementOffset s l n = answered (0 ∷ []) (judge (elementRules s l n)) (offsetOf
 
 -- offset of a point
 abbrev pub pointRules : Shape → Layout → List ℕ → List Rule
-pointRules s l point =
-    layoutRules s l ++ (rule (eqb (length point) (s .rank)) WrongLength ∷ rule (isInside point (sizesOf s)) Outside ∷ [])
+pointRules s l point = layoutRules s l ++ insideRules s point
 
 unfoldable pub pointOffset : Shape → Layout → List ℕ → Answer ℕ
 pointOffset s l point = answered (0 ∷ []) (judge (pointRules s l point)) (pointOffsetOf s l point ∷ [])

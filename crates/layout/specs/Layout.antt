@@ -1,5 +1,5 @@
 -- The layout record and its rule: minor_to_major is a permutation, and 0 to 3 tiles each name last dimensions. Assumes nothing.
-use Prim.Native.Nat.{ℕ, _+_, _*_}
+use Prim.Native.Nat.{ℕ, _+_}
 use mathlib.Core.Bool.{Bool, true, _&&_}
 use mathlib.Core.List.{List, [], _∷_}
 use lib.Dec.{leb, eqb}
@@ -10,8 +10,8 @@ use Rattle.refusal.specs.declared.Refusal.the-variants.{ShapeLimits, LayoutRule
 use Rattle.shape.specs.Shape.{maxRank, sizesOf, goodShape}
 use Rattle.shape.specs.Dimensions.{isPermutation}
 use Rattle.shape.specs.declared.Shape.{Shape}
-use Rattle.layout.specs.Tile.{reversed, padded, offset, offsetAt}
-use Rattle.layout.specs.Cell.{Cell, cell}
+use Rattle.tiling.specs.Tile.{maxTiles, maxEntries, maxEntry, tilesFrom, reversed, padded, offset, offsetAt}
+use Rattle.tiling.specs.Cell.{Cell, cell}
 use Rattle.layout.specs.declared.Layout.{Layout}
 
 -- the lists of a record, up to its counts

@@ -1,10 +1,10 @@
 -- Laws of judging: a call that is judged done keeps its first rule and the rest. Assumes nothing.
 use mathlib.Core.Path.{_≡_, refl}
 use mathlib.Core.Bool.{Bool, true, false}
-use mathlib.Core.List.{List, _∷_}
+use mathlib.Core.List.{List, [], _∷_, _++_}
 use Prim.Native.Nat.{ℕ}
 use native.Mathlib.Omega.{arith}
-use Rattle.refusal.specs.Judge.{Rule, rule, unless, judge}
+use Rattle.refusal.specs.Judge.{Rule, unless, judge}
 use Rattle.refusal.specs.declared.Refusal.{Refusal}
 use Rattle.refusal.specs.declared.Verdict.{Verdict}
 use Rattle.refusal.specs.declared.Verdict.the-variants.{Done, Refused}
@@ -17,9 +17,15 @@ pub rest : (b : Bool) (r : Refusal) (v : Verdict) → unless b r v ≡ Done → 
 rest true r v e = e
 rest false r v e = let z : _≡_ {A = ℕ} 0 1 = cc in absurd (omega arith)
 
--- a rule that is kept, and one that is broken
-pub judge-kept : {b : Bool} (r : Refusal) (rules : List Rule) → b ≡ true → judge (rule b r ∷ rules) ≡ judge rules
-judge-kept r rules e = rw e
+-- rules judged after others
+pub after-done : (xs ys : List Rule) → judge xs ≡ Done → judge (xs ++ ys) ≡ judge ys
+after-done [] ys e = refl
+after-done (x ∷ xs) ys e = rw (kept (x .kept) (x .otherwise) (judge xs) e) (after-done xs ys (rest (x .kept) (x .otherwise) (judge xs) e))
 
-pub judge-broken : {b : Bool} (r : Refusal) (rules : List Rule) → b ≡ false → judge (rule b r ∷ rules) ≡ Refused r
-judge-broken r rules e = rw e
+pub after-refused : (xs ys : List Rule) (r : Refusal) → judge xs ≡ Refused r → judge (xs ++ ys) ≡ Refused r
+after-refused [] ys r e = let z : _≡_ {A = ℕ} 0 1 = cc in absurd (omega arith)
+after-refused (x ∷ xs) ys r e = go (after-refused xs ys r) (x .kept) e
+  where
+    go : (judge xs ≡ Refused r → judge (xs ++ ys) ≡ Refused r) → (b : Bool) → unless b (x .otherwise) (judge xs) ≡ Refused r → unless b (x .otherwise) (judge (xs ++ ys)) ≡ Refused r
+    go ih true e = ih e
+    go ih false e = e

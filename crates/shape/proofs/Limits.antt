@@ -4,12 +4,18 @@ use mathlib.Core.Bool.{true, _&&_}
 use Prim.Native.Nat.{ℕ, _≤_, min, _+_}
 use native.Mathlib.Nat.{min-eq-left}
 use native.Mathlib.Omega.{arith}
-use lib.Dec.{leb}
+use mathlib.Core.List.{List}
+use lib.Dec.{leb, eqb}
 use lib.ListN.{length}
 use lib.Seq.{length-take-le}
 use borrow.Author.Tests.{leb-true}
-use Rattle.radix.specs.Radix.{maxSize, maxCount, Sizes, isWithin}
-use Rattle.radix.proofs.Tests.{and-left, and-right, bounded-of}
+use Rattle.refusal.specs.Judge.{judge}
+use Rattle.refusal.specs.declared.Refusal.the-variants.{Outside, WrongLength}
+use Rattle.refusal.specs.declared.Verdict.the-variants.{Done}
+use Rattle.refusal.proofs.Judged.{kept, rest}
+use Rattle.shape.specs.Answers.{insideRules}
+use Rattle.radix.specs.Radix.{In, isInside, maxSize, maxCount, Sizes, isWithin}
+use Rattle.radix.proofs.Tests.{inside-in, and-left, and-right, bounded-of}
 use Rattle.shape.specs.Shape.{maxRank, sizesOf, countOf, goodShape}
 use Rattle.shape.specs.declared.Shape.{Shape}
 
@@ -40,3 +46,8 @@ limits s six e =
 -- the product with its limit is the element count
 pub whole : {s : Shape} (n : ℕ) → Limits s → n ≡ min (countOf s) (maxCount + 1) → n ≡ countOf s
 whole {s} n l e = e ∙ min-eq-left (omega (arith, l .count))
+
+-- a point that is judged done lies inside
+pub point-in : (s : Shape) (point : List ℕ) → judge (insideRules s point) ≡ Done → In point (sizesOf s)
+point-in s point e =
+    inside-in point (sizesOf s) (kept (isInside point (sizesOf s)) Outside Done (rest (eqb (length point) (s .rank)) WrongLength _ e))

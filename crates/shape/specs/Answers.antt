@@ -34,12 +34,11 @@ abbrev pub numberedAnswer : Numbered → Answer ℕ
 numberedAnswer (numbered.At e) = done (e .0 ∷ [])
 numberedAnswer (numbered.Refused r) = refusal (0 ∷ []) r
 
+abbrev pub insideRules : Shape → List ℕ → List Rule
+insideRules s point = rule (eqb (length point) (s .rank)) WrongLength ∷ rule (isInside point (sizesOf s)) Outside ∷ []
+
 abbrev pub numberRules : Shape → List ℕ → List Rule
-numberRules s point =
-    rule (goodShape s) ShapeLimits
-    ∷ rule (eqb (length point) (s .rank)) WrongLength
-    ∷ rule (isInside point (sizesOf s)) Outside
-    ∷ []
+numberRules s point = rule (goodShape s) ShapeLimits ∷ insideRules s point
 
 unfoldable pub elementNumber : Shape → List ℕ → Answer ℕ
 elementNumber s point = answered (0 ∷ []) (judge (numberRules s point)) (rowMajor (sizesOf s) point ∷ [])

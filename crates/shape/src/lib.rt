@@ -8,9 +8,10 @@ pub use dimensions::place_of;
 use refusal::Refusal;
 use refusal::Verdict;
 ghost use mathlib.Core.Path.{_≡_};
-ghost use lib.ListN.{length, take};
-ghost use Rattle.shape.specs.Shape.{goodShape};
-ghost use Rattle.shape.specs.Answers.{countedAnswer, elementCount, numberedAnswer, elementNumber, locatedAnswer, unlocatedOf, elementPoint};
+ghost use mathlib.Core.Bool.{true};
+ghost use Rattle.refusal.specs.Judge.{judge};
+ghost use Rattle.shape.specs.Shape.{goodShape, countOf};
+ghost use Rattle.shape.specs.Answers.{countedAnswer, elementCount, numberedAnswer, elementNumber, insideRules, locatedAnswer, unlocatedOf, elementPoint};
 
 // The most dimensions of a shape.
 pub const MAX_RANK: usize = 6;
@@ -64,16 +65,41 @@ pub fn good_shape(shape: Shape) -> bool
     }
 }
 
+// The element count of a shape that keeps its limits.
+pub fn count_of(shape: Shape) -> u64
+    requires { ⌜ goodShape shape ≡ true ⌝ }
+    ensures { λ r. ⌜ r ≡ countOf shape ⌝ }
+{
+    let rank = shape.rank;
+    let sizes = shape.sizes;
+    radix::product(&sizes[..rank])
+}
+
 // How many elements a shape has.
 pub fn element_count(shape: Shape) -> Counted
     ensures { λ r. ⌜ countedAnswer r ≡ elementCount shape ⌝ }
 {
     if good_shape(shape) {
-        let rank = shape.rank;
-        let sizes = shape.sizes;
-        Counted::Elements(radix::product(&sizes[..rank]))
+        Counted::Elements(count_of(shape))
     } else {
         Counted::Refused(Refusal::ShapeLimits)
+    }
+}
+
+// A point of a shape that keeps its limits: its length, and that it lies inside.
+pub fn judge_point(shape: Shape, point: &[u64]) -> Verdict
+    requires { ⌜ goodShape shape ≡ true ⌝ }
+    ensures { λ r. ⌜ r ≡ judge (insideRules shape (now (point .entry))) ⌝ }
+{
+    let rank = shape.rank;
+    if point.len() != rank {
+        return Verdict::Refused(Refusal::WrongLength);
+    }
+    let sizes = shape.sizes;
+    if radix::inside(point, &sizes[..rank]) {
+        Verdict::Done
+    } else {
+        Verdict::Refused(Refusal::Outside)
     }
 }
 
@@ -84,16 +110,14 @@ pub fn element_number(shape: Shape, point: &[u64]) -> Numbered
     if !good_shape(shape) {
         return Numbered::Refused(Refusal::ShapeLimits);
     }
-    let rank = shape.rank;
-    if point.len() != rank {
-        return Numbered::Refused(Refusal::WrongLength);
-    }
-    let sizes = shape.sizes;
-    if radix::inside(point, &sizes[..rank]) {
-        let n = radix::row_major(&sizes[..rank], point);
-        Numbered::At(Element(n))
-    } else {
-        Numbered::Refused(Refusal::Outside)
+    match judge_point(shape, point) {
+        Verdict::Done => {
+            let rank = shape.rank;
+            let sizes = shape.sizes;
+            let n = radix::row_major(&sizes[..rank], point);
+            Numbered::At(Element(n))
+        }
+        Verdict::Refused(r) => Numbered::Refused(r),
     }
 }
 
@@ -117,10 +141,10 @@ pub fn element_point(shape: Shape, element: Element) -> Located
     if !good_shape(shape) {
         return unlocated(Refusal::ShapeLimits);
     }
-    let rank = shape.rank;
-    let sizes = shape.sizes;
     let n = element.0;
-    if n < radix::product(&sizes[..rank]) {
+    if n < count_of(shape) {
+        let rank = shape.rank;
+        let sizes = shape.sizes;
         let mut coordinates = [0u64; 6];
         radix::digits_into(&sizes[..rank], n, &mut coordinates);
         Located {

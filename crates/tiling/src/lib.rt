@@ -7,7 +7,6 @@ pub use cell::Found;
 pub use lists::cell_found;
 pub use lists::element_offset;
 pub use lists::padded_cells;
-pub use lists::point_offset;
 pub use physical::Physical;
 pub use physical::offset_in;
 pub use physical::physical_dims;

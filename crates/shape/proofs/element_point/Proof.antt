@@ -11,8 +11,9 @@ use Rattle.refusal.specs.Number.{done}
 use Prim.Native.Nat.{ℕ, _<_, _≤_, _-_}
 use native.Mathlib.Omega.{arith}
 use Rattle.shape.specs.Shape.{maxRank, goodShape, sizesOf, countOf}
+use Rattle.shape.specs.declared.Shape.{Shape}
 use Rattle.shape.specs.Answers.{locatedAnswer, elementPoint}
-use Rattle.shape.proofs.Limits.{Limits, limits, whole}
+use Rattle.shape.proofs.Limits.{Limits, limits}
 use Rattle.shape.proofs.element_point.Statement.{statement}
 use Rattle.shape.proofs.element_point.Tie as tie
 
@@ -30,37 +31,36 @@ returns c = ap locatedAnswer (c .unlocated .ensures) ∙ rw (sym (c .before .bef
 kept : (c : tie.Else1) → goodShape (c .before .before .args .shape) ≡ true
 kept c = sym (c .before .good-shape .ensures) ∙ not-false (c .before .good-shape .result) (c .if1 .left)
 
-good : (c : tie.After-sizes) → Limits (c .before .before .before .args .shape)
-good c = limits (c .before .before .before .args .shape) (search needs) (kept (c .before))
+count-of-requires : tie.Need-count-of-requires
+count-of-requires c κs = kept c
+
+-- where the element lies inside: the shape, the element, and the shape's limits
+abbrev Of : tie.Then2 → Shape
+Of c = c .before .before .before .before .args .shape
+
+abbrev N : tie.Then2 → ℕ
+N c = c .before .before .before .before .args .element .0
+
+below : (c : tie.Then2) → N c < countOf (Of c)
+below c = subst (λ (k : ℕ). N c < k) (c .before .count-of .ensures) (c .if2 .taken)
+
+good : (c : tie.Then2) → Limits (Of c)
+good c = limits (Of c) (search needs) (kept (c .before .before))
 
 array-share-prefix-sizes : tie.Need-array-share-prefix-sizes
-array-share-prefix-sizes c = good c .room
-
-slice-aggregate-product : tie.Need-slice-aggregate-product
-slice-aggregate-product c = sym (good (c .before) .long)
-
-product-requires : tie.Need-product-requires
-product-requires c κs = good (c .before) .sizes
-
--- the product is the element count
-count : (c : tie.After-product) → c .product .result ≡ countOf (c .before .before .before .before .before .args .shape)
-count c = whole _ (good (c .before .before)) (c .product .ensures)
-
-array-share-prefix-sizes-2 : tie.Need-array-share-prefix-sizes-2
-array-share-prefix-sizes-2 c = good (c .before .before .before) .room
+array-share-prefix-sizes c = good (c .before) .room
 
 slice-aggregate-digits-into : tie.Need-slice-aggregate-digits-into
-slice-aggregate-digits-into c = sym (good (c .before .before .before .before) .long)
+slice-aggregate-digits-into c = sym (good (c .before .before) .long)
 
 slice-aggregate-digits-into-2 : tie.Need-slice-aggregate-digits-into-2
 slice-aggregate-digits-into-2 c = search needs
 
 digits-into-requires : tie.Need-digits-into-requires
 digits-into-requires c κs =
-    let t = c .before .before in
-    let g = good (t .before .before .before) in
-    let n = t .before .before .before .before .before .before .args .element .0 in
-    ((omega (arith, g .rank, g .long), g .count, subst (λ (k : ℕ). n < k) (count (t .before)) (t .if2 .taken)), g .sizes)
+    let t = c .before .before .before in
+    let g = good t in
+    ((omega (arith, g .rank, g .long), g .count, below t), g .sizes)
 
 unlocated-requires-2 : tie.Need-unlocated-requires-2
 unlocated-requires-2 c κs = search needs
@@ -69,21 +69,19 @@ returns-2 : tie.Need-returns-2
 unfolding elementPoint
 returns-2 c =
     let d = c .before in
-    let t = d .before .before .before in
-    let g = good (t .before .before .before) in
-    let n = t .before .before .before .before .before .before .args .element .0 in
-    rw (kept (t .before .before .before .before), lt-ltb _ _ (subst (λ (k : ℕ). n < k) (count (t .before)) (t .if2 .taken)))
-    (ap (λ (xs : List ℕ). done (t .before .before .before .before .before .before .args .shape .rank ∷ xs)) (d .digits-into .ensures
-    ∙ ap (λ (xs : List ℕ). digits (sizesOf (t .before .before .before .before .before .before .args .shape)) n ++ xs) (drop-replicate (length (sizesOf (t .before .before .before .before .before .before .args .shape))) maxRank 0
-    ∙ ap (λ (k : ℕ). replicate (maxRank - k) 0) (g .long))))
+    let t = d .before .before .before .before in
+    rw (kept (t .before .before), lt-ltb _ _ (below t))
+    (ap (λ (xs : List ℕ). done (Of t .rank ∷ xs))
+    (d .digits-into .ensures
+    ∙ ap (λ (xs : List ℕ). digits (sizesOf (Of t)) (N t) ++ xs) (drop-replicate (length (sizesOf (Of t))) maxRank 0 ∙ ap (λ (k : ℕ). replicate (maxRank - k) 0) (good t .long))))
 
 returns-3 : tie.Need-returns-3
 unfolding elementPoint
 returns-3 c =
     let t = c .before in
-    let n = t .before .before .before .before .before .before .args .element .0 in
+    let n = t .before .before .before .before .args .element .0 in
     ap locatedAnswer (c .unlocated2 .ensures)
-    ∙ rw (kept (t .before .before .before .before), le-ltb _ _ (subst (λ (k : ℕ). k ≤ n) (count (t .before)) (t .if2 .left)))
+    ∙ rw (kept (t .before .before), le-ltb _ _ (subst (λ (k : ℕ). k ≤ n) (t .before .count-of .ensures) (t .if2 .left)))
 
 pub element-point-spec : {M : Type 1} → statement M
 element-point-spec =
@@ -92,10 +90,8 @@ element-point-spec =
     good-shape-requires
     unlocated-requires
     returns
+    count-of-requires
     array-share-prefix-sizes
-    slice-aggregate-product
-    product-requires
-    array-share-prefix-sizes-2
     slice-aggregate-digits-into
     slice-aggregate-digits-into-2
     digits-into-requires
