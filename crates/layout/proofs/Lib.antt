@@ -1,3 +1,4 @@
 pub mod Accepted
 pub mod Rules
 pub mod Ratio
+pub mod Theorems

@@ -29,3 +29,9 @@ after-refused (x ∷ xs) ys r e = go (after-refused xs ys r) (x .kept) e
     go : (judge xs ≡ Refused r → judge (xs ++ ys) ≡ Refused r) → (b : Bool) → unless b (x .otherwise) (judge xs) ≡ Refused r → unless b (x .otherwise) (judge (xs ++ ys)) ≡ Refused r
     go ih true e = ih e
     go ih false e = e
+
+-- and what is judged done together is judged done apart
+pub before-done : (xs ys : List Rule) → judge (xs ++ ys) ≡ Done → judge xs ≡ Done
+before-done [] ys e = refl
+before-done (x ∷ xs) ys e =
+    rw (kept (x .kept) (x .otherwise) (judge (xs ++ ys)) e) (before-done xs ys (rest (x .kept) (x .otherwise) (judge (xs ++ ys)) e))

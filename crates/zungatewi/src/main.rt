@@ -1,0 +1,16 @@
+// The program: answers the requests on standard input, one to a line, by the library's calls.
+mod answer;
+mod arguments;
+mod buffers;
+mod grid;
+mod input;
+mod read;
+mod request;
+mod token;
+mod write;
+
+fn main() {
+    let mut line = [0u8; 65536];
+    let mut out = [0u8; 65536];
+    input::serve(&mut line, &mut out);
+}

@@ -1,0 +1,18 @@
+//! Refusal numbers of the table in document 01, as far as the layout calls give them.
+
+#[derive(Clone, Copy, Debug, PartialEq, Eq)]
+pub enum Refusal {
+    Shape = 1,
+    Limit = 2,
+    Layout = 3,
+    PaddedSize = 4,
+    Outside = 5,
+    PointLength = 6,
+    ShortBuffer = 9,
+}
+
+impl Refusal {
+    pub fn number(self) -> u32 {
+        self as u32
+    }
+}

@@ -1,0 +1,68 @@
+//! Vectors: the files `stdin` and `stdout` that the program is compared with.
+
+use std::fs;
+use std::io;
+use std::path::Path;
+
+use crate::answer::answer_input;
+use crate::random_requests::random_lines;
+use crate::vectors_buffers::BUFFERS;
+use crate::vectors_documents::{documents, formats};
+use crate::vectors_grids::GRIDS;
+use crate::vectors_layouts::LAYOUTS;
+use crate::vectors_long_lines::long_lines;
+use crate::vectors_order::ORDER;
+use crate::vectors_places::PLACES;
+use crate::vectors_shapes::SHAPES;
+use crate::vectors_shares::SHARES;
+use crate::vectors_tokens::TOKENS;
+use crate::vectors_unreadable::UNREADABLE;
+
+/// A title, written as a comment, and the request lines under it.
+pub type Group = (&'static str, &'static [&'static str]);
+
+/// The tables of groups, in the order in which they are written.
+const TABLES: &[&[Group]] = &[
+    SHAPES, SHARES, LAYOUTS, PLACES, BUFFERS, ORDER, GRIDS, TOKENS, UNREADABLE,
+];
+
+const SEED: u64 = 20_010_001;
+const RANDOM_REQUESTS: u64 = 3000;
+
+/// Writes both files into a directory.
+pub fn write_vectors(directory: &str) -> io::Result<()> {
+    let directory = Path::new(directory);
+    let requests = requests();
+    fs::create_dir_all(directory)?;
+    fs::write(directory.join("stdin"), &requests)?;
+    fs::write(directory.join("stdout"), answer_input(&requests))
+}
+
+/// The bytes of `stdin`. Its last line ends with the input.
+fn requests() -> Vec<u8> {
+    let mut text = String::new();
+    documents(&mut text);
+    formats(&mut text);
+    for (title, lines) in TABLES.iter().copied().flatten() {
+        group(&mut text, title, lines.iter());
+    }
+    long_lines(&mut text);
+    let title = format!("random requests, {RANDOM_REQUESTS} from seed {SEED}");
+    group(&mut text, &title, [""; 0].iter());
+    let mut bytes = text.into_bytes();
+    bytes.extend(random_lines(SEED, RANDOM_REQUESTS));
+    bytes.extend(b"# a last line that ends at the end of the input\n");
+    bytes.extend(b"offset [3,5] {1,0:T(2,2)} (2,3)");
+    bytes
+}
+
+/// Adds a comment with the title, and the lines.
+pub fn group<T: AsRef<str>>(text: &mut String, title: &str, lines: impl Iterator<Item = T>) {
+    text.push_str("# ");
+    text.push_str(title);
+    text.push('\n');
+    for line in lines {
+        text.push_str(line.as_ref());
+        text.push('\n');
+    }
+}
