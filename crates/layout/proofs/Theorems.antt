@@ -2,8 +2,7 @@
 use mathlib.Core.Path.{_≡_, refl}
 use Prim.Native.Nat.{ℕ, _+_, _-_, _<_, _≤_}
 use native.Mathlib.Nat.{add-sub-of-le}
-use native.Mathlib.Omega.{arith}
-use lib.Ieee.{Float, binary64, round}
+use lib.Ieee.{binary64, round}
 use mathlib.Core.Bool.{false}
 use mathlib.Core.List.{List}
 use Rattle.radix.proofs.Radix.{digits-rowMajor}

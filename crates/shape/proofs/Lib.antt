@@ -1,3 +1,4 @@
 pub mod Repeats
 pub mod Limits
 pub mod Permutations
+pub mod Theorems

@@ -15,7 +15,7 @@ use Rattle.shape.specs.Dimensions.{place, inRange, repeats, laterPlace, 
 use Rattle.shape.proofs.Repeats.{place-at, place-before, no-repeat}
 
 -- no two places hold the same
-pub Apart : List ℕ → Type 0
+abbrev pub Apart : List ℕ → Type 0
 Apart xs = (i j : ℕ) → i < j → j < length xs → getD xs i 0 ≡ getD xs j 0 → ⊥
 
 -- the place of a dimension is at most any place that holds it
@@ -23,20 +23,20 @@ pub place-le : (j : ℕ) (xs : List ℕ) (k : ℕ) → getD xs k 0 ≡ j → pla
 place-le j xs k e = ⊎-elim (λ h. h) (λ g. absurd (place-before j xs k g e)) (le-or-lt (place j xs) k)
 
 pub apart-free : (xs : List ℕ) → Apart xs → free xs ≡ true
-unfolding Apart laterPlace
+unfolding laterPlace
 apart-free xs a =
     let e = first-none (repeats xs) (length xs) (λ k h. no-repeat xs k h (λ i l. a i k l h)) in
     le-leb (length xs) (laterPlace xs) (omega (arith, e))
 
 pub free-apart : (xs : List ℕ) → free xs ≡ true → Apart xs
-unfolding Apart laterPlace
+unfolding laterPlace
 free-apart xs e i j l h q =
     let f : repeats xs j ≡ false = first-before (repeats xs) (length xs) j (omega (arith, leb-true (length xs) (laterPlace xs) e)) in
     absurd (omega (arith, ltb-false (place (getD xs j 0) xs) j f, place-le (getD xs j 0) xs i q))
 
 -- the test says that every number has its place
 pub permutation-of : (xs : List ℕ) → isPermutation xs ≡ true → Permutation xs
-unfolding isPermutation inRange Apart
+unfolding isPermutation inRange
 permutation-of xs e = record { inside = within; onto = onto }
   where
     apart : Apart xs
@@ -54,7 +54,7 @@ permutation-of xs e = record { inside = within; onto = onto }
 
 -- and only then
 pub permutation-is : (xs : List ℕ) → Permutation xs → isPermutation xs ≡ true
-unfolding isPermutation inRange Apart
+unfolding isPermutation inRange
 permutation-is xs p =
     and-true
     (every-all (λ (k : ℕ). ltb (getD xs k 0) (length xs)) (length xs) (λ k h. lt-ltb (getD xs k 0) (length xs) (p .inside k h)))
