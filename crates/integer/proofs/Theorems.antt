@@ -77,8 +77,8 @@ exact-passed z = (gone (leb (natAbs z) limit) refl, exact-out z)
 
 -- Within the limit the answer on paper is 0 with the number; past it, 8 with a zero.
 pub exact-answer : (z : ℤ)
-    → (natAbs z ≤ limit → exactAnswer (exactly z) ≡ (0, z ∷ []))
-    × (limit < natAbs z → exactAnswer (exactly z) ≡ (8, pos 0 ∷ []))
+    → (natAbs z ≤ limit → exactAnswer (exactly z) ≡ record { number = 0; values = z ∷ []; places = [] })
+    × (limit < natAbs z → exactAnswer (exactly z) ≡ record { number = 8; values = pos 0 ∷ []; places = [] })
 exact-answer z = (λ h. ap exactAnswer (exact-in z h), λ h. ap exactAnswer (exact-out z h))
 
 -- gcdOf a b is the greatest common divisor of a and b, by what divides what.

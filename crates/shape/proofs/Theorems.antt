@@ -30,9 +30,10 @@ number-point s n h = (digits-in (sizesOf s) n h, rowMajor-digits (sizesOf s) n h
 -- The judging of a permutation agrees with 'in range and free of repeats': every dimension is below the length, and no two places hold the same.
 pub permutation-judged : (xs : List ℕ) → (isPermutation xs ≡ true) ↔ (((k : ℕ) → k < length xs → getD xs k 0 < length xs) × ((i j : ℕ) → i < j → j < length xs → getD xs i 0 ≡ getD xs j 0 → ⊥))
 unfolding isPermutation inRange
-permutation-judged xs =
-    (λ e. (permutation-of xs e .inside, free-apart xs (and-right (inRange (length xs) xs) (free xs) e)),
-    λ p. and-true (every-all (λ (k : ℕ). ltb (getD xs k 0) (length xs)) (length xs) (λ k h. lt-ltb (getD xs k 0) (length xs) (p .0 k h))) (apart-free xs (p .1)))
+permutation-judged xs = (
+  λ e. (permutation-of xs e .inside, free-apart xs (and-right (inRange (length xs) xs) (free xs) e)),
+  λ p. and-true (every-all (λ (k : ℕ). ltb (getD xs k 0) (length xs)) (length xs) (λ k h. lt-ltb (getD xs k 0) (length xs) (p .0 k h))) (apart-free xs (p .1)),
+)
 
 -- And with 'every number below the length has its place, and nothing else stands there'.
 pub permutation-onto : (xs : List ℕ) → (isPermutation xs ≡ true) ↔ Permutation xs

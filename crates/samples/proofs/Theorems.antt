@@ -1,0 +1,17 @@
+-- The theorem on the samples of document 01. Assumes nothing.
+use mathlib.Core.Path.{_≡_, refl}
+use mathlib.Core.List.{map}
+use Rattle.radix.specs.Radix.{isWithin}
+use Rattle.shape.specs.Shape.{goodShape}
+use Rattle.shape.specs.Dimensions.{place, inRange, laterPlace, isPermutation}
+use Rattle.shape.specs.Answers.{elementCount}
+use Rattle.tiling.specs.Tile.{tileDims, tileIndex, physical, padded, offsetAt, offset}
+use Rattle.tiling.specs.Cell.{untile, candidate, cell}
+use Rattle.layout.specs.Layout.{goodLayout}
+use Rattle.layout.specs.Answers.{paddedSize, pointOffset, elementHeld}
+use Rattle.samples.specs.Samples.{Sample, samples}
+
+-- Every sample comes out as document 01 says.
+pub all-samples : map (λ (s : Sample). s .asked) samples ≡ map (λ (s : Sample). s .expected) samples
+unfolding samples elementCount paddedSize pointOffset elementHeld goodShape goodLayout isWithin isPermutation inRange laterPlace place padded physical offsetAt offset tileDims tileIndex untile candidate cell
+all-samples = refl
