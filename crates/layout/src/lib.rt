@@ -1,12 +1,8 @@
 // Tiled layouts: padded size, offsets, what a cell holds, the layout card and the fit verdict.
-mod inner;
+pub mod inner;
 mod judge;
 mod share;
 
-pub use inner::cell_found;
-pub use inner::offset_number;
-pub use inner::padded_capped;
-pub use inner::padded_cells;
 pub use judge::good_layout;
 pub use judge::judge_layout;
 use refusal::Refusal;
@@ -88,7 +84,7 @@ pub fn padded_size(shape: Shape, layout: Layout) -> Padded
     ensures { λ r. ⌜ paddedAnswer r ≡ paddedSize shape layout ⌝ }
 {
     match judge_layout(shape, layout) {
-        Verdict::Done => Padded::Cells(padded_cells(shape, layout)),
+        Verdict::Done => Padded::Cells(inner::padded_cells(shape, layout)),
         Verdict::Refused(r) => Padded::Refused(r),
     }
 }
@@ -100,8 +96,8 @@ pub fn offset_of_element(shape: Shape, layout: Layout, element: Element) -> Plac
     match judge_layout(shape, layout) {
         Verdict::Done => {
             let n = element.0;
-            if n < shape::count_of(shape) {
-                Placed::At(Offset(offset_number(shape, layout, n)))
+            if n < shape::inner::count_of(shape) {
+                Placed::At(Offset(inner::offset_number(shape, layout, n)))
             } else {
                 Placed::Refused(Refusal::Outside)
             }
@@ -115,7 +111,7 @@ pub fn offset_of_point(shape: Shape, layout: Layout, point: &[u64]) -> Placed
     ensures { λ r. ⌜ placedAnswer r ≡ pointOffset shape layout (now (point .entry)) ⌝ }
 {
     match judge_layout(shape, layout) {
-        Verdict::Done => match shape::judge_point(shape, point) {
+        Verdict::Done => match shape::inner::judge_point(shape, point) {
             Verdict::Done => Placed::At(Offset(inner::point_offset(shape, layout, point))),
             Verdict::Refused(r) => Placed::Refused(r),
         },
@@ -130,7 +126,7 @@ pub fn element_at(shape: Shape, layout: Layout, offset: Offset) -> Held
     match judge_layout(shape, layout) {
         Verdict::Done => {
             let k = offset.0;
-            if k < padded_cells(shape, layout) {
+            if k < inner::padded_cells(shape, layout) {
                 held_at(shape, layout, k)
             } else {
                 Held::Refused(Refusal::Outside)
@@ -145,7 +141,7 @@ fn held_at(shape: Shape, layout: Layout, k: u64) -> Held
     requires { ⌜ (judge (layoutRules shape layout) ≡ Done) × (k < paddedOf shape layout) ⌝ }
     ensures { λ r. ⌜ heldAnswer r ≡ done (cellValues (cellOf shape layout k)) ⌝ }
 {
-    match cell_found(shape, layout, k) {
+    match inner::cell_found(shape, layout, k) {
         tiling::Found::Number(n) => Held::Holds(Element(n)),
         tiling::Found::Padding => Held::Padding,
     }
@@ -157,8 +153,8 @@ pub fn layout_card(shape: Shape, layout: Layout) -> Carded
 {
     match judge_layout(shape, layout) {
         Verdict::Done => {
-            let padded = padded_cells(shape, layout);
-            let count = shape::count_of(shape);
+            let padded = inner::padded_cells(shape, layout);
+            let count = shape::inner::count_of(shape);
             Carded::Card(LayoutCard {
                 fill: share::share(count, padded),
                 waste: share::share(padded - count, padded),
@@ -173,7 +169,7 @@ pub fn fit_verdict(shape: Shape, layout: Layout, limit: u64) -> Fitted
     ensures { λ r. ⌜ fittedAnswer r ≡ fitVerdict shape layout limit ⌝ }
 {
     match judge::judge_fit(shape, layout, limit) {
-        Verdict::Done => Fitted::Judged(share::fit_of(padded_cells(shape, layout), limit)),
+        Verdict::Done => Fitted::Judged(share::fit_of(inner::padded_cells(shape, layout), limit)),
         Verdict::Refused(r) => Fitted::Refused(r),
     }
 }

@@ -25,10 +25,10 @@ fn judge_buffers(shape: Shape, layout: Layout, elements: usize, cells: usize) ->
 {
     match layout::judge_layout(shape, layout) {
         Verdict::Done => {
-            if (elements as u64) < shape::count_of(shape) {
+            if (elements as u64) < shape::inner::count_of(shape) {
                 return Verdict::Refused(Refusal::ShortBuffer);
             }
-            if (cells as u64) < layout::padded_cells(shape, layout) {
+            if (cells as u64) < layout::inner::padded_cells(shape, layout) {
                 return Verdict::Refused(Refusal::ShortBuffer);
             }
             Verdict::Done
@@ -43,10 +43,10 @@ fn judge_element(shape: Shape, layout: Layout, n: u64, cells: usize) -> Verdict
 {
     match layout::judge_layout(shape, layout) {
         Verdict::Done => {
-            if shape::count_of(shape) <= n {
+            if shape::inner::count_of(shape) <= n {
                 return Verdict::Refused(Refusal::Outside);
             }
-            if (cells as u64) < layout::padded_cells(shape, layout) {
+            if (cells as u64) < layout::inner::padded_cells(shape, layout) {
                 return Verdict::Refused(Refusal::ShortBuffer);
             }
             Verdict::Done
@@ -94,7 +94,7 @@ pub fn store(
     let n = element.0;
     match judge_element(shape, layout, n, cells.len()) {
         Verdict::Done => {
-            let o = layout::offset_number(shape, layout, n) as usize;
+            let o = layout::inner::offset_number(shape, layout, n) as usize;
             cells[o] = value;
             Verdict::Done
         }
@@ -109,7 +109,7 @@ pub fn load(shape: Shape, layout: Layout, element: Element, cells: &[u32]) -> Lo
     let n = element.0;
     match judge_element(shape, layout, n, cells.len()) {
         Verdict::Done => {
-            let o = layout::offset_number(shape, layout, n) as usize;
+            let o = layout::inner::offset_number(shape, layout, n) as usize;
             let value = cells[o];
             Loaded::Value(value)
         }

@@ -1,5 +1,6 @@
 // Shapes, elements and points, and lists of dimensions.
 mod dimensions;
+pub mod inner;
 
 pub use dimensions::first_repeat;
 pub use dimensions::in_range;
@@ -8,10 +9,8 @@ pub use dimensions::place_of;
 use refusal::Refusal;
 use refusal::Verdict;
 ghost use mathlib.Core.Path.{_≡_};
-ghost use mathlib.Core.Bool.{true};
-ghost use Rattle.refusal.specs.Judge.{judge};
-ghost use Rattle.shape.specs.Shape.{goodShape, countOf};
-ghost use Rattle.shape.specs.Answers.{countedAnswer, elementCount, numberedAnswer, elementNumber, insideRules, locatedAnswer, unlocatedOf, elementPoint};
+ghost use Rattle.shape.specs.Shape.{goodShape};
+ghost use Rattle.shape.specs.Answers.{countedAnswer, elementCount, numberedAnswer, elementNumber, locatedAnswer, unlocatedOf, elementPoint};
 
 // The most dimensions of a shape.
 pub const MAX_RANK: usize = 6;
@@ -65,41 +64,14 @@ pub fn good_shape(shape: Shape) -> bool
     }
 }
 
-// The element count of a shape that keeps its limits.
-pub fn count_of(shape: Shape) -> u64
-    requires { ⌜ goodShape shape ≡ true ⌝ }
-    ensures { λ r. ⌜ r ≡ countOf shape ⌝ }
-{
-    let rank = shape.rank;
-    let sizes = shape.sizes;
-    radix::product(&sizes[..rank])
-}
-
 // How many elements a shape has.
 pub fn element_count(shape: Shape) -> Counted
     ensures { λ r. ⌜ countedAnswer r ≡ elementCount shape ⌝ }
 {
     if good_shape(shape) {
-        Counted::Elements(count_of(shape))
+        Counted::Elements(inner::count_of(shape))
     } else {
         Counted::Refused(Refusal::ShapeLimits)
-    }
-}
-
-// A point of a shape that keeps its limits: its length, and that it lies inside.
-pub fn judge_point(shape: Shape, point: &[u64]) -> Verdict
-    requires { ⌜ goodShape shape ≡ true ⌝ }
-    ensures { λ r. ⌜ r ≡ judge (insideRules shape (now (point .entry))) ⌝ }
-{
-    let rank = shape.rank;
-    if point.len() != rank {
-        return Verdict::Refused(Refusal::WrongLength);
-    }
-    let sizes = shape.sizes;
-    if radix::inside(point, &sizes[..rank]) {
-        Verdict::Done
-    } else {
-        Verdict::Refused(Refusal::Outside)
     }
 }
 
@@ -110,7 +82,7 @@ pub fn element_number(shape: Shape, point: &[u64]) -> Numbered
     if !good_shape(shape) {
         return Numbered::Refused(Refusal::ShapeLimits);
     }
-    match judge_point(shape, point) {
+    match inner::judge_point(shape, point) {
         Verdict::Done => {
             let rank = shape.rank;
             let sizes = shape.sizes;
@@ -142,7 +114,7 @@ pub fn element_point(shape: Shape, element: Element) -> Located
         return unlocated(Refusal::ShapeLimits);
     }
     let n = element.0;
-    if n < count_of(shape) {
+    if n < inner::count_of(shape) {
         let rank = shape.rank;
         let sizes = shape.sizes;
         let mut coordinates = [0u64; 6];

@@ -1,10 +1,10 @@
--- `shape::judge_point` meets its contract. Assumes nothing.
+-- `shape::inner::judge_point` meets its contract. Assumes nothing.
 use borrow.Author.Needs.{needs}
 use borrow.Author.Tests.{eq-eqb, ne-eqb}
 use mathlib.Core.Path.{sym, _∙_}
 use Rattle.shape.proofs.Limits.{Limits, limits}
-use Rattle.shape.proofs.judge_point.Statement.{statement}
-use Rattle.shape.proofs.judge_point.Tie as tie
+use Rattle.shape.proofs.inner.judge_point.Statement.{statement}
+use Rattle.shape.proofs.inner.judge_point.Tie as tie
 
 returns : tie.Need-returns
 returns c = rw (ne-eqb _ _ (c .if1 .taken))

@@ -1,9 +1,9 @@
--- `shape::count_of` meets its contract. Assumes nothing.
+-- `shape::inner::count_of` meets its contract. Assumes nothing.
 use borrow.Author.Needs.{needs}
 use mathlib.Core.Path.{sym}
 use Rattle.shape.proofs.Limits.{Limits, limits, whole}
-use Rattle.shape.proofs.count_of.Statement.{statement}
-use Rattle.shape.proofs.count_of.Tie as tie
+use Rattle.shape.proofs.inner.count_of.Statement.{statement}
+use Rattle.shape.proofs.inner.count_of.Tie as tie
 
 good : (c : tie.After-sizes) → Limits (c .before .args .shape)
 good c = limits (c .before .args .shape) (search needs) (c .before .pre)
