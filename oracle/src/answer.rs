@@ -6,6 +6,7 @@ use crate::layout::{padded_size, Layout};
 use crate::offset::{offset_of_point, point_at_offset};
 use crate::refusal::Refusal;
 use crate::request::{read_request, Question, Request};
+use crate::route::{best_plan, Plan};
 use crate::shape::{element_count, element_number, point_of_element, Shape};
 use crate::share::{card, fit, Fit};
 
@@ -59,6 +60,7 @@ fn answer_request(request: &Request) -> String {
             layout,
             question,
         } => answer_question(shape, *column, layout, question),
+        Request::Route(route) => best_plan(route).map(|plan| plan_text(&plan)),
     };
     answer.unwrap_or_else(|refusal| format!("refused {}", refusal.number()))
 }
@@ -145,6 +147,11 @@ fn store_answer(
     store(shape, layout, element, value, &mut cells)?;
     let padded = padded_size(shape, layout)?;
     Ok(row("cells", &cells[..padded as usize]))
+}
+
+fn plan_text(plan: &Plan) -> String {
+    let places: Vec<String> = plan.places.iter().map(usize::to_string).collect();
+    format!("plan {} total {}", places.join(" "), plan.total)
 }
 
 /// Cells that hold their own offsets.

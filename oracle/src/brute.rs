@@ -1,5 +1,6 @@
-//! Brute force: every small case compared with a second reading of document 001.
+//! Brute force: small cases compared with a second reading of the documents.
 
+use crate::brute_routes::brute_routes;
 use crate::buffer::{pack, unpack};
 use crate::layout::{padded_size, Layout};
 use crate::offset::{offset_of_element, offset_of_point, point_at_offset};
@@ -9,12 +10,12 @@ use crate::shape::{element_count, element_number, point_of_element, Shape};
 use crate::small_cases::{permutations, shapes, tile_lists};
 
 /// Comparisons made so far.
-struct Tally {
-    comparisons: u64,
+pub struct Tally {
+    pub comparisons: u64,
 }
 
 impl Tally {
-    fn agree(&mut self, same: bool, what: &'static str) -> Result<(), &'static str> {
+    pub fn agree(&mut self, same: bool, what: &'static str) -> Result<(), &'static str> {
         self.comparisons += 1;
         if same {
             return Ok(());
@@ -26,6 +27,13 @@ impl Tally {
 /// The number of comparisons, or the first case that disagrees.
 pub fn brute() -> Result<u64, String> {
     let mut tally = Tally { comparisons: 0 };
+    brute_layouts(&mut tally)?;
+    brute_routes(&mut tally)?;
+    Ok(tally.comparisons)
+}
+
+/// Every small layout compared with the pad, reshape and transpose of document 001.
+fn brute_layouts(tally: &mut Tally) -> Result<(), String> {
     let tile_lists = tile_lists();
     for shape in shapes() {
         for minor_to_major in permutations(shape.sizes.len()) {
@@ -34,12 +42,12 @@ pub fn brute() -> Result<u64, String> {
                     minor_to_major: minor_to_major.clone(),
                     tiles: tiles.clone(),
                 };
-                compare(&mut tally, &shape, &layout)
+                compare(tally, &shape, &layout)
                     .map_err(|what| format!("{what}: {shape:?} {layout:?}"))?;
             }
         }
     }
-    Ok(tally.comparisons)
+    Ok(())
 }
 
 /// All comparisons of one case.

@@ -2,6 +2,7 @@
 
 mod answer;
 mod brute;
+mod brute_routes;
 mod buffer;
 mod damage;
 mod grid;
@@ -9,16 +10,22 @@ mod layout;
 mod offset;
 mod pad_reshape_transpose;
 mod random;
+mod random_kinds;
 mod random_pieces;
 mod random_requests;
+mod random_routes;
 mod reader;
 mod refusal;
 mod request;
+mod route;
+mod route_by_trial;
 mod shape;
 mod share;
 mod small_cases;
 #[cfg(test)]
 mod tests;
+#[cfg(test)]
+mod tests_routes;
 mod token;
 mod vectors;
 mod vectors_buffers;
@@ -26,8 +33,10 @@ mod vectors_documents;
 mod vectors_grids;
 mod vectors_layouts;
 mod vectors_long_lines;
+mod vectors_long_routes;
 mod vectors_order;
 mod vectors_places;
+mod vectors_routes;
 mod vectors_shapes;
 mod vectors_shares;
 mod vectors_tokens;
@@ -36,7 +45,9 @@ mod vectors_unreadable;
 use std::io::{self, Read, Write};
 use std::process::ExitCode;
 
-const USAGE: &str = "usage: oracle answer | random SEED N | vectors [DIR] | brute";
+use random_kinds::{random_lines, Kind};
+
+const USAGE: &str = "usage: oracle answer | random SEED N [layout | route] | vectors [DIR] | brute";
 
 /// Where `vectors` writes when no directory is given.
 const VECTORS_DIRECTORY: &str = "crates/zungatewi";
@@ -46,9 +57,10 @@ fn main() -> ExitCode {
     let words: Vec<&str> = words.iter().map(String::as_str).collect();
     let done = match words[..] {
         ["answer"] => answer(),
-        ["random", seed, count] => match (seed.parse(), count.parse()) {
-            (Ok(seed), Ok(count)) => write_out(&random_requests::random_lines(seed, count)),
-            _ => return usage(),
+        ["random", seed, count] => random(seed, count, None),
+        ["random", seed, count, kind] => match Kind::named(kind) {
+            Some(kind) => random(seed, count, Some(kind)),
+            None => return usage(),
         },
         ["vectors"] => vectors::write_vectors(VECTORS_DIRECTORY),
         ["vectors", directory] => vectors::write_vectors(directory),
@@ -74,6 +86,14 @@ fn answer() -> io::Result<()> {
     let mut input = Vec::new();
     io::stdin().read_to_end(&mut input)?;
     write_out(&answer::answer_input(&input))
+}
+
+/// Writes random request lines.
+fn random(seed: &str, count: &str, kind: Option<Kind>) -> io::Result<()> {
+    match (seed.parse(), count.parse()) {
+        (Ok(seed), Ok(count)) => write_out(&random_lines(seed, count, kind)),
+        _ => Err(io::Error::other("SEED and N are whole numbers")),
+    }
 }
 
 fn write_out(bytes: &[u8]) -> io::Result<()> {

@@ -32,6 +32,11 @@ impl Random {
         self.below(100) < share
     }
 
+    /// A place in a list of that length.
+    pub fn pick_place(&mut self, length: usize) -> usize {
+        self.below(length as u64) as usize
+    }
+
     pub fn pick<T: Copy>(&mut self, choices: &[T]) -> T {
         choices[self.below(choices.len() as u64) as usize]
     }

@@ -8,6 +8,7 @@ const TOP_SIZE: i64 = 1 << 20;
 const TOP_COUNT: i64 = 1 << 40;
 
 /// A shape and a layout as they are written: any signed numbers.
+#[derive(Clone)]
 pub struct Draft {
     pub sizes: Vec<i64>,
     pub minor_to_major: Vec<i64>,
@@ -100,7 +101,7 @@ fn large_product(random: &mut Random) -> Vec<i64> {
     sizes
 }
 
-fn random_minor_to_major(random: &mut Random, rank: usize) -> Vec<i64> {
+pub fn random_minor_to_major(random: &mut Random, rank: usize) -> Vec<i64> {
     let mut order: Vec<i64> = (0..rank as i64).collect();
     for place in (1..rank).rev() {
         order.swap(place, random.below(place as u64 + 1) as usize);
@@ -120,7 +121,7 @@ fn random_minor_to_major(random: &mut Random, rank: usize) -> Vec<i64> {
     order
 }
 
-fn random_tiles(random: &mut Random, rank: usize, small: bool) -> Vec<Vec<i64>> {
+pub fn random_tiles(random: &mut Random, rank: usize, small: bool) -> Vec<Vec<i64>> {
     let count = random.pick(&[0, 0, 0, 0, 1, 1, 1, 1, 1, 1, 2, 2, 2, 2, 3, 3, 3, 4]);
     let mut physical_rank = rank;
     let mut tiles = Vec::new();

@@ -1,4 +1,4 @@
-//! Random request lines of every kind, most of them readable and some damaged.
+//! Random lines about shapes and layouts, most of them readable and some damaged.
 
 use crate::damage::damage;
 use crate::layout::padded_size;
@@ -13,18 +13,8 @@ const WORDS: [&str; 12] = [
     "load", "grid",
 ];
 
-/// The given number of lines, each with its line end.
-pub fn random_lines(seed: u64, count: u64) -> Vec<u8> {
-    let mut random = Random::new(seed);
-    let mut lines = Vec::new();
-    for _ in 0..count {
-        lines.extend(random_line(&mut random));
-        lines.push(b'\n');
-    }
-    lines
-}
-
-fn random_line(random: &mut Random) -> Vec<u8> {
+/// A line about a shape or a layout.
+pub fn random_line(random: &mut Random) -> Vec<u8> {
     let line = random_request(random).into_bytes();
     if random.percent(15) {
         return damage(random, line);
@@ -112,7 +102,7 @@ fn point_text(random: &mut Random, draft: &Draft) -> String {
     format!("({})", joined(&random_point(random, &draft.sizes)))
 }
 
-fn layout_text(draft: &Draft) -> String {
+pub fn layout_text(draft: &Draft) -> String {
     let order = joined(&draft.minor_to_major);
     if draft.tiles.is_empty() {
         return format!("{{{order}}}");
@@ -122,13 +112,13 @@ fn layout_text(draft: &Draft) -> String {
     format!("{{{order}:T{tiles}}}")
 }
 
-fn joined(numbers: &[i64]) -> String {
+pub fn joined(numbers: &[i64]) -> String {
     let words: Vec<String> = numbers.iter().map(i64::to_string).collect();
     words.join(",")
 }
 
 /// The same tokens with more or fewer spaces around brackets, commas and colons.
-fn spaced(random: &mut Random, line: &[u8]) -> Vec<u8> {
+pub fn spaced(random: &mut Random, line: &[u8]) -> Vec<u8> {
     let mut text = vec![b' '; random.below(3) as usize];
     for (place, &byte) in line.iter().enumerate() {
         let before_bracket = matches!(line.get(place + 1), Some(b'[' | b'{' | b'('));

@@ -120,6 +120,19 @@ impl<'a> Reader<'a> {
         Ok(numbers)
     }
 
+    pub fn is_ahead(&self, symbol: u8) -> bool {
+        self.ahead.token == Token::Symbol(symbol)
+    }
+
+    /// Goes past the symbol if it is ahead, and says so.
+    pub fn skip(&mut self, symbol: u8) -> bool {
+        let ahead = self.is_ahead(symbol);
+        if ahead {
+            self.advance();
+        }
+        ahead
+    }
+
     fn symbol(&mut self, symbol: u8) -> Result<(), Unreadable> {
         if self.ahead.token == Token::Symbol(symbol) {
             self.advance();

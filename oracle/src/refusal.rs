@@ -1,4 +1,4 @@
-//! Refusal numbers of the table in document 01, as far as the layout calls give them.
+//! Refusal numbers of the table in document 01, as far as the calls here give them.
 
 #[derive(Clone, Copy, Debug, PartialEq, Eq)]
 pub enum Refusal {
@@ -9,6 +9,7 @@ pub enum Refusal {
     Outside = 5,
     PointLength = 6,
     ShortBuffer = 9,
+    NoPlan = 10,
 }
 
 impl Refusal {

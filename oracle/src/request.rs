@@ -2,6 +2,7 @@
 
 use crate::layout::Layout;
 use crate::reader::{Reader, Unreadable};
+use crate::route::Route;
 use crate::shape::Shape;
 
 /// The longest buffer that a request can lend, and the length lent where none is given.
@@ -24,6 +25,7 @@ pub enum Request {
         layout: Layout,
         question: Question,
     },
+    Route(Route),
 }
 
 /// What is asked about a shape with a layout.
@@ -73,11 +75,38 @@ pub fn read_request(line: &[u8]) -> Result<Request, Unreadable> {
             shape: reader.shape()?,
             element: reader.unsigned()?,
         },
+        b"route" => Request::Route(route(&mut reader)?),
         word if is_placed(word) => placed(word, &mut reader)?,
         _ => return Err(Unreadable { column }),
     };
     reader.end()?;
     Ok(request)
+}
+
+/// Reads SHAPE LIMIT MOVES and the stations, with `;` between them.
+fn route(reader: &mut Reader) -> Result<Route, Unreadable> {
+    let shape = reader.shape()?;
+    let cell_limit = reader.unsigned()?;
+    let move_limit = reader.unsigned()?;
+    let mut stations = vec![station(reader)?];
+    while reader.skip(b';') {
+        stations.push(station(reader)?);
+    }
+    Ok(Route {
+        shape,
+        cell_limit,
+        move_limit,
+        stations,
+    })
+}
+
+/// Reads the layouts of a station, at least one.
+fn station(reader: &mut Reader) -> Result<Vec<Layout>, Unreadable> {
+    let mut layouts = vec![reader.layout()?];
+    while reader.is_ahead(b'{') {
+        layouts.push(reader.layout()?);
+    }
+    Ok(layouts)
 }
 
 fn is_placed(word: &[u8]) -> bool {

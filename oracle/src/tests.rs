@@ -4,14 +4,14 @@ use crate::answer::{answer_input, answer_line};
 use crate::pad_reshape_transpose::memory;
 use crate::random::Random;
 
-fn check(cases: &[(&str, &str)]) {
+pub fn check(cases: &[(&str, &str)]) {
     for (request, expected) in cases {
         let answer = answer_line(request.as_bytes());
         assert_eq!(answer.as_deref(), Some(*expected), "{request}");
     }
 }
 
-fn check_columns(cases: &[(&str, usize)]) {
+pub fn check_columns(cases: &[(&str, usize)]) {
     for (request, column) in cases {
         let expected = format!("error: cannot read the request at column {column}");
         check(&[(*request, &expected)]);

@@ -5,14 +5,16 @@ use std::io;
 use std::path::Path;
 
 use crate::answer::answer_input;
-use crate::random_requests::random_lines;
+use crate::random_kinds::{random_lines, Kind};
 use crate::vectors_buffers::BUFFERS;
 use crate::vectors_documents::{documents, formats};
 use crate::vectors_grids::GRIDS;
 use crate::vectors_layouts::LAYOUTS;
 use crate::vectors_long_lines::long_lines;
+use crate::vectors_long_routes::long_routes;
 use crate::vectors_order::ORDER;
 use crate::vectors_places::PLACES;
+use crate::vectors_routes::{ROUTES, UNREADABLE_ROUTES};
 use crate::vectors_shapes::SHAPES;
 use crate::vectors_shares::SHARES;
 use crate::vectors_tokens::TOKENS;
@@ -28,6 +30,7 @@ const TABLES: &[&[Group]] = &[
 
 const SEED: u64 = 20_010_001;
 const RANDOM_REQUESTS: u64 = 3000;
+const RANDOM_ROUTES: u64 = 2000;
 
 /// Writes both files into a directory.
 pub fn write_vectors(directory: &str) -> io::Result<()> {
@@ -40,6 +43,16 @@ pub fn write_vectors(directory: &str) -> io::Result<()> {
 
 /// The bytes of `stdin`. Its last line ends with the input.
 fn requests() -> Vec<u8> {
+    let mut bytes = Vec::new();
+    layouts(&mut bytes);
+    routes(&mut bytes);
+    bytes.extend(b"# a last line that ends at the end of the input\n");
+    bytes.extend(b"offset [3,5] {1,0:T(2,2)} (2,3)");
+    bytes
+}
+
+/// The requests about shapes and layouts.
+fn layouts(bytes: &mut Vec<u8>) {
     let mut text = String::new();
     documents(&mut text);
     formats(&mut text);
@@ -47,13 +60,26 @@ fn requests() -> Vec<u8> {
         group(&mut text, title, lines.iter());
     }
     long_lines(&mut text);
-    let title = format!("random requests, {RANDOM_REQUESTS} from seed {SEED}");
-    group(&mut text, &title, [""; 0].iter());
-    let mut bytes = text.into_bytes();
-    bytes.extend(random_lines(SEED, RANDOM_REQUESTS));
-    bytes.extend(b"# a last line that ends at the end of the input\n");
-    bytes.extend(b"offset [3,5] {1,0:T(2,2)} (2,3)");
-    bytes
+    bytes.extend(text.bytes());
+    random_group(bytes, "requests", RANDOM_REQUESTS, Kind::Layout);
+}
+
+/// The requests about routes.
+fn routes(bytes: &mut Vec<u8>) {
+    let mut text = String::new();
+    for (title, lines) in ROUTES.iter().chain(UNREADABLE_ROUTES) {
+        group(&mut text, title, lines.iter());
+    }
+    long_routes(&mut text);
+    bytes.extend(text.bytes());
+    random_group(bytes, "routes", RANDOM_ROUTES, Kind::Route);
+}
+
+/// Adds a comment, and random lines of one kind.
+fn random_group(bytes: &mut Vec<u8>, name: &str, count: u64, kind: Kind) {
+    let title = format!("# random {name}, {count} from seed {SEED}\n");
+    bytes.extend(title.bytes());
+    bytes.extend(random_lines(SEED, count, Some(kind)));
 }
 
 /// Adds a comment with the title, and the lines.

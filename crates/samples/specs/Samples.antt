@@ -1,16 +1,19 @@
 -- The samples of document 01 as one list: what is asked, and what the document says. Assumes nothing.
-use mathlib.Core.List.{List, [], _∷_}
-use Prim.Native.Nat.{ℕ}
+use mathlib.Core.List.{List, [], _∷_, _++_}
+use Prim.Native.Nat.{ℕ, _^_}
 use lib.IntN.{ℤ, pos, negsuc}
-use lib.ListN.{replicate}
+use lib.ListN.{length, replicate}
 use Rattle.integer.specs.Floor.{floorDiv, floorMod}
 use Rattle.refusal.specs.Number.{Answer, done, refusal}
-use Rattle.refusal.specs.declared.Refusal.the-variants.{ShapeLimits, LayoutRule, Outside}
+use Rattle.refusal.specs.declared.Refusal.the-variants.{ShapeLimits, LayoutRule, Outside, NoPlan}
 use Rattle.shape.specs.Answers.{elementCount}
 use Rattle.shape.specs.declared.Shape.{Shape}
 use Rattle.tiling.specs.Tile.{padded, offset}
 use Rattle.layout.specs.Answers.{paddedSize, pointOffset, elementHeld}
 use Rattle.layout.specs.declared.Layout.{Layout}
+use Rattle.plan.specs.Answer.{spread}
+use Rattle.route.specs.Route.{routeZeros, routeOf}
+use Rattle.route.specs.declared.Station.{Station}
 
 -- an answer on paper, or a whole number
 pub data Value : Type 0 where
@@ -53,6 +56,24 @@ tiled-twice =
       tile = 2 ∷ 4 ∷ 0 ∷ 0 ∷ 0 ∷ 0 ∷ 2 ∷ 1 ∷ replicate 10 0;
     }
 
+abbrev station : List Layout → Station
+station ls = record { count = length ls; layouts = ls }
+
+-- the stations in their order, with the cell limit 2^40
+abbrev through : Shape → List Station → ℕ → Answer ℕ
+through s ys moves = routeOf s ys (length ys) (2 ^ 40) moves
+
+-- the layouts of the routes: untiled, and one tile (8,128)
+abbrev A : Layout
+A = untiled 1 0
+
+abbrev T : Layout
+T = tiled 8 128
+
+-- a plan's places, and its total
+abbrev gives : List ℕ → ℕ → Answer ℕ
+gives plan total = done (spread (length plan) plan ++ (total ∷ []))
+
 abbrev at : ℕ → Answer ℕ
 at n = done (n ∷ [])
 
@@ -70,6 +91,12 @@ samples =
     ∷ says (pointOffset (matrix 4 8) tiled-twice (1 ∷ 0 ∷ [])) (at 1)
     ∷ says (pointOffset (matrix 4 8) tiled-twice (0 ∷ 1 ∷ [])) (at 2)
     ∷ says (pointOffset (matrix 4 8) tiled-twice (3 ∷ 7 ∷ [])) (at 31)
+    -- [3,5] at stations [A,T], [T,A], [T]: K = 1 gives places 0,1,0, total 2,078; K = 0 gives 1,0,0, total 3,072
+    ∷ says (through (matrix 3 5) (station (A ∷ T ∷ []) ∷ station (T ∷ A ∷ []) ∷ station (T ∷ []) ∷ []) 1) (gives (0 ∷ 1 ∷ 0 ∷ []) 2078)
+    ∷ says (through (matrix 3 5) (station (A ∷ T ∷ []) ∷ station (T ∷ A ∷ []) ∷ station (T ∷ []) ∷ []) 0) (gives (1 ∷ 0 ∷ 0 ∷ []) 3072)
+    -- stations [T], [A] with K = 0: 10; [4,4], one station [{1,0}, {0,1}]: place 0, total 16
+    ∷ says (through (matrix 3 5) (station (T ∷ []) ∷ station (A ∷ []) ∷ []) 0) (refusal routeZeros NoPlan)
+    ∷ says (through (matrix 4 4) (station (untiled 1 0 ∷ untiled 0 1 ∷ []) ∷ []) 0) (gives (0 ∷ []) 16)
     -- tile entry 1,024 passes, 1,025 is 3; size 2^20 passes; 0 and 2^20 + 1 are 1
     ∷ says (paddedSize (matrix 3 5) (tiled 1024 1)) (at 5120)
     ∷ says (paddedSize (matrix 3 5) (tiled 1025 1)) (refusal (0 ∷ []) LayoutRule)

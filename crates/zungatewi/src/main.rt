@@ -6,6 +6,7 @@ mod grid;
 mod input;
 mod read;
 mod request;
+mod stations;
 mod token;
 mod write;
 

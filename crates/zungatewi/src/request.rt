@@ -4,6 +4,7 @@ use crate::arguments::Arguments;
 use crate::arguments::read_arguments;
 use crate::buffers;
 use crate::grid::grid;
+use crate::stations::answer_route;
 use crate::token::Cursor;
 use crate::token::finish;
 use crate::token::part;
@@ -19,6 +20,7 @@ pub enum Request {
     Card,
     Fit,
     Grid,
+    Route,
     Number,
     Point,
     Pack,
@@ -46,6 +48,9 @@ fn named(name: &[u8]) -> Request {
     }
     if same(name, b"grid") {
         return Request::Grid;
+    }
+    if same(name, b"route") {
+        return Request::Route;
     }
     named_elements(name)
 }
@@ -84,6 +89,9 @@ pub fn respond(line: &[u8], out: &mut [u8], at: usize) -> usize {
         at: name.end,
         ok: true,
     };
+    if let Request::Route = request {
+        return answer_route(line, from, out, at);
+    }
     let a = read_arguments(line, from, request);
     let end = finish(line, a.next);
     if !end.ok {

@@ -1,0 +1,149 @@
+-- Judging what was read: each rule from its mark, and what an input that breaks no rule gives. Assumes nothing.
+use mathlib.Core.Path.{_≡_, sym, _∙_, subst}
+use mathlib.Core.Bool.{true, false, _&&_}
+use mathlib.Core.List.{List}
+use Prim.Native.Nat.{ℕ, _<_, _≤_}
+use native.Mathlib.Omega.{arith}
+use borrow.Author.Tests.{leb-true, le-leb, lt-leb}
+use lib.Dec.{leb}
+use lib.ListN.{length}
+use Rattle.radix.specs.Radix.{maxCount}
+use Rattle.radix.proofs.Tests.{and-left, and-right}
+use Rattle.refusal.specs.Judge.{rule}
+use Rattle.refusal.specs.declared.Refusal.{Refusal}
+use Rattle.refusal.specs.declared.Refusal.the-variants.{ShapeLimits, Attribute, LayoutRule, PaddedSize, ShortBuffer}
+use Rattle.refusal.specs.declared.Verdict.the-variants.{Done, Refused}
+use Rattle.refusal.proofs.Judged.{kept, rest}
+use Rattle.shape.specs.Shape.{goodShape}
+use Rattle.shape.specs.declared.Shape.{Shape}
+use Rattle.plan.specs.Answer.{maxStations}
+use Rattle.route.specs.Stations.{countsKept, layoutsKept, sizesKept}
+use Rattle.route.specs.Route.{maxMoves, goodLimits, recordsRead, breaksNoRule}
+use Rattle.route.specs.Loading.{Reads, Holds, Judges}
+use Rattle.route.specs.declared.Station.{Station}
+use Rattle.route.specs.declared.load.Loaded.{Loaded}
+
+-- a refusal is not done
+pub not-done : {A : Type 0} (r : Refusal) → Refused r ≡ Done → A
+not-done r e = absurd (let z : _≡_ {A = ℕ} 0 1 = cc in omega arith)
+
+-- the limits as facts
+pub record Limited (number cells moves : ℕ) : Type 0 where
+  pub some : 1 ≤ number
+  pub few : number ≤ maxStations
+  pub cells-in : cells ≤ maxCount
+  pub moves-in : moves ≤ maxMoves
+
+pub limited : (number cells moves : ℕ) → goodLimits number cells moves ≡ true → Limited number cells moves
+unfolding goodLimits
+limited number cells moves e =
+    let a = leb 1 number && leb number maxStations in
+    let b = leb 1 cells && leb cells maxCount in
+    let p = and-left a (b && leb moves maxMoves) e in
+    let q = and-right a (b && leb moves maxMoves) e in
+    record {
+      some = leb-true 1 number (and-left (leb 1 number) (leb number maxStations) p);
+      few = leb-true number maxStations (and-right (leb 1 number) (leb number maxStations) p);
+      cells-in = leb-true cells maxCount (and-right (leb 1 cells) (leb cells maxCount) (and-left b (leb moves maxMoves) q));
+      moves-in = leb-true moves maxMoves (and-right b (leb moves maxMoves) q);
+    }
+
+-- none of the rules 1 to 9 applies, as facts
+pub record Unbroken (s : Shape) (ys : List Station) (number cells moves : ℕ) : Type 0 where
+  pub limits : Limited number cells moves
+  pub counts : countsKept ys number ≡ true
+  pub layouts : layoutsKept s ys number ≡ true
+  pub sizes : sizesKept s ys number ≡ true
+  pub long : number ≤ length ys
+
+pub unbroken : (s : Shape) (ys : List Station) (number cells moves : ℕ) → breaksNoRule s ys number cells moves → Unbroken s ys number cells moves
+unbroken s ys number cells moves e =
+    let e2 = rest (goodShape s) _ _ e in
+    let c = kept (goodLimits number cells moves && countsKept ys (recordsRead ys number)) _ _ e2 in
+    let e3 = rest (goodLimits number cells moves && countsKept ys (recordsRead ys number)) _ _ e2 in
+    let e4 = rest (layoutsKept s ys (recordsRead ys number)) _ _ e3 in
+    let e5 = rest (sizesKept s ys (recordsRead ys number)) _ _ e4 in
+    let l : number ≤ length ys = leb-true _ _ (kept (leb number (length ys)) _ _ e5) in
+    let n : recordsRead ys number ≡ number = omega arith in
+    record {
+      limits = limited number cells moves (and-left (goodLimits number cells moves) (countsKept ys (recordsRead ys number)) c);
+      counts = subst (λ (k : ℕ). countsKept ys k ≡ true) n (and-right (goodLimits number cells moves) (countsKept ys (recordsRead ys number)) c);
+      layouts = subst (λ (k : ℕ). layoutsKept s ys k ≡ true) n (kept (layoutsKept s ys (recordsRead ys number)) _ _ e3);
+      sizes = subst (λ (k : ℕ). sizesKept s ys k ≡ true) n (kept (sizesKept s ys (recordsRead ys number)) _ _ e4);
+      long = l;
+    }
+
+-- what was read is what the rules ask for
+module _ (s : Shape) (h : Loaded) (len number cells moves : ℕ) where
+  pub no-shape : goodShape s ≡ false → Judges s h len number cells moves (Refused ShapeLimits)
+  no-shape f = record { limits = λ q. not-done ShapeLimits q; judged = λ ys n e R H. rw f }
+
+  module _ (g : goodShape s ≡ true) where
+    pub no-limits : goodLimits number cells moves ≡ false → Judges s h len number cells moves (Refused Attribute)
+    no-limits f = record { limits = λ q. not-done Attribute q; judged = λ ys n e R H. rw (g, f) }
+
+    module _ (m : goodLimits number cells moves ≡ true) where
+      held : (ys : List Station) (n : ℕ) → length ys ≡ len → Reads s number len n → Holds s ys n h → Holds s ys (recordsRead ys number) h
+      held ys n e R H =
+          let few = limited number cells moves m .few in
+          let q : n ≡ recordsRead ys number = omega (arith, R .all g few) in
+          subst (λ (k : ℕ). Holds s ys k h) q H
+
+      pub no-counts : h .«counts_kept» ≡ false → Judges s h len number cells moves (Refused Attribute)
+      no-counts f =
+          record {
+            limits = λ q. not-done Attribute q;
+            judged = λ ys n e R H. rw (g, m, sym (held ys n e R H .counts) ∙ f);
+          }
+
+      module _ (c : h .«counts_kept» ≡ true) where
+        pub no-layouts : h .«layouts_kept» ≡ false → Judges s h len number cells moves (Refused LayoutRule)
+        no-layouts f =
+            record {
+              limits = λ q. not-done LayoutRule q;
+              judged =
+                  λ ys n e R H.
+                  let K = held ys n e R H in
+                  let c′ = sym (K .counts) ∙ c in
+                  rw (g, m, c′, sym (K .layouts c′) ∙ f);
+            }
+
+        module _ (l : h .«layouts_kept» ≡ true) where
+          pub no-sizes : h .«sizes_kept» ≡ false → Judges s h len number cells moves (Refused PaddedSize)
+          no-sizes f =
+              record {
+                limits = λ q. not-done PaddedSize q;
+                judged =
+                    λ ys n e R H.
+                    let K = held ys n e R H in
+                    let c′ = sym (K .counts) ∙ c in
+                    let l′ = sym (K .layouts c′) ∙ l in
+                    rw (g, m, c′, l′, sym (K .sizes c′ l′) ∙ f);
+              }
+
+          module _ (z : h .«sizes_kept» ≡ true) where
+            pub too-short : len < number → Judges s h len number cells moves (Refused ShortBuffer)
+            too-short f =
+                record {
+                  limits = λ q. not-done ShortBuffer q;
+                  judged =
+                      λ ys n e R H.
+                      let K = held ys n e R H in
+                      let c′ = sym (K .counts) ∙ c in
+                      let l′ = sym (K .layouts c′) ∙ l in
+                      let w : length ys < number = omega arith in
+                      rw (g, m, c′, l′, sym (K .sizes c′ l′) ∙ z, lt-leb _ _ w);
+                }
+
+            pub all-kept : number ≤ len → Judges s h len number cells moves Done
+            all-kept f =
+                record {
+                  limits = λ q. m;
+                  judged =
+                      λ ys n e R H.
+                      let K = held ys n e R H in
+                      let c′ = sym (K .counts) ∙ c in
+                      let l′ = sym (K .layouts c′) ∙ l in
+                      let w : number ≤ length ys = omega arith in
+                      rw (g, m, c′, l′, sym (K .sizes c′ l′) ∙ z, le-leb _ _ w);
+                }

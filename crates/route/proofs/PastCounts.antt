@@ -1,0 +1,139 @@
+-- What a record holds past its counts alters nothing: lists of stations that agree up to their counts have one answer. Assumes nothing.
+use mathlib.Core.Path.{_≡_, refl, sym, ap, ap₂, _∙_}
+use mathlib.Core.Bool.{Bool, true, false, _&&_, cond}
+use mathlib.Core.List.{List, [], _∷_, _++_, head-eq-of-cons-eq, tail-eq-of-cons-eq}
+use Prim.Native.Nat.{ℕ, zero, suc, _+_, _<_, min}
+use native.Mathlib.Omega.{arith}
+use borrow.Author.Tests.{ltb-true}
+use lib.Dec.{leb, eqb, ltb}
+use lib.ListN.{length, drop}
+use Rattle.radix.specs.Radix.{maxCount, every, isWithin}
+use Rattle.refusal.specs.Number.{done}
+use Rattle.refusal.specs.Judge.{rule, judge}
+use Rattle.refusal.specs.declared.Verdict.{Verdict}
+use Rattle.refusal.specs.declared.Verdict.the-variants.{Done, Refused}
+use Rattle.shape.specs.Shape.{maxRank, sizesOf}
+use Rattle.shape.specs.Dimensions.{isPermutation}
+use Rattle.shape.specs.declared.Shape.{Shape}
+use Rattle.tiling.specs.Tile.{maxEntries, maxEntry, maxTiles, tilesFrom, reversed, padded}
+use Rattle.layout.specs.Layout.{minorToMajor, lensOf, tilesOf, areTiles, goodLayout, paddedOf}
+use Rattle.layout.specs.declared.Layout.{Layout}
+use Rattle.plan.specs.Value.{far, hasPlan}
+use Rattle.plan.specs.Answer.{spread}
+use Rattle.plan.proofs.Alike.{Alike, cost-alike, best-alike}
+use Rattle.plan.proofs.Theorems.{best-found}
+use Rattle.route.specs.Same.{sameList, sameTiles, sameLayout, moveOf}
+use Rattle.route.specs.Stations.{stationAt, layoutAt, goodCount, goodLayouts, goodSizes, countsKept, layoutsKept, sizesKept, netOf}
+use Rattle.route.specs.Route.{routeRules, breaksNoRule, routeOf}
+use Rattle.route.specs.declared.Station.{Station}
+use Rattle.route.proofs.Entering.{counts-low}
+use Rattle.route.proofs.Judging.{unbroken}
+use Rattle.route.proofs.Answering.{answer-refused, answer-none, answer-values}
+
+-- two layouts that agree up to their counts
+pub record LayoutsAgree (a b : Layout) : Type 0 where
+  pub rank : a .rank ≡ b .rank
+  pub tiles : a .tiles ≡ b .tiles
+  pub order : minorToMajor a ≡ minorToMajor b
+  pub lens : lensOf a ≡ lensOf b
+  pub entries : tilesOf a ≡ tilesOf b
+
+-- two lists of stations that agree up to their counts
+pub record StationsAgree (xs ys : List Station) : Type 0 where
+  pub long : length xs ≡ length ys
+  pub count : (i : ℕ) → stationAt xs i .count ≡ stationAt ys i .count
+  pub layouts : (i a : ℕ) → a < stationAt xs i .count → LayoutsAgree (layoutAt (stationAt xs i) a) (layoutAt (stationAt ys i) a)
+
+-- the rule of tiles reads no more than the tiles
+tiles-agree : (n : ℕ) (lens flat flat2 : List ℕ) → tilesFrom lens flat ≡ tilesFrom lens flat2 → areTiles n lens flat ≡ areTiles n lens flat2
+tiles-agree n [] flat flat2 e = refl
+tiles-agree n (m ∷ lens) flat flat2 e =
+    ap₂ (λ (w : List ℕ) (t : Bool). (leb 1 m && (leb m maxEntries && leb m n)) && (isWithin maxEntry w && t))
+    (head-eq-of-cons-eq e)
+    (tiles-agree (n + m) lens (drop maxEntries flat) (drop maxEntries flat2) (tail-eq-of-cons-eq e))
+
+good-agree : (rank : ℕ) (a b : Layout) → LayoutsAgree a b → goodLayout rank a ≡ goodLayout rank b
+unfolding goodLayout
+good-agree rank a b A =
+    ap₂ _&&_
+    (ap₂ (λ (r t : ℕ). eqb r rank && leb r maxRank && leb t maxTiles) (A .rank) (A .tiles))
+    (ap₂ _&&_ (ap isPermutation (A .order))
+    (ap₂ (λ (r : ℕ) (l : List ℕ). areTiles r l (a .tile)) (A .rank) (A .lens)
+    ∙ tiles-agree (b .rank) (lensOf b) (a .tile) (b .tile) (ap (λ (l : List ℕ). tilesFrom l (a .tile)) (sym (A .lens)) ∙ A .entries)))
+
+padded-agree : (s : Shape) (a b : Layout) → LayoutsAgree a b → paddedOf s a ≡ paddedOf s b
+padded-agree s a b A = ap₂ (λ (m : List ℕ) (t : List (List ℕ)). padded (sizesOf s) (reversed m) t) (A .order) (A .entries)
+
+move-agree : (a b c d : Layout) → LayoutsAgree a b → LayoutsAgree c d → moveOf a c ≡ moveOf b d
+unfolding sameLayout
+move-agree a b c d A C =
+    ap (λ (t : Bool). cond {A = ℕ} t 0 1)
+    (ap₂ _&&_ (ap₂ sameList (A .order) (C .order)) (ap₂ sameTiles (A .entries) (C .entries)))
+
+-- tests that agree below n
+every-agree : (f g : ℕ → Bool) (n : ℕ) → ((k : ℕ) → k < n → f k ≡ g k) → every f n ≡ every g n
+every-agree f g zero h = refl
+every-agree f g (suc n) h = ap₂ _&&_ (every-agree f g n (λ k l. h k (omega arith))) (h n (omega arith))
+
+module _ (s : Shape) (xs ys : List Station) (A : StationsAgree xs ys) where
+  layouts-agree : (i : ℕ) → goodLayouts (s .rank) (stationAt xs i) ≡ goodLayouts (s .rank) (stationAt ys i)
+  layouts-agree i =
+      every-agree _ _ (stationAt xs i .count) (λ a l. good-agree (s .rank) _ _ (A .layouts i a l))
+      ∙ ap (every (λ (a : ℕ). goodLayout (s .rank) (layoutAt (stationAt ys i) a))) (A .count i)
+
+  sizes-agree : (i : ℕ) → goodSizes s (stationAt xs i) ≡ goodSizes s (stationAt ys i)
+  sizes-agree i =
+      every-agree _ _ (stationAt xs i .count) (λ a l. ap (λ (p : ℕ). leb p maxCount) (padded-agree s _ _ (A .layouts i a l)))
+      ∙ ap (every (λ (a : ℕ). leb (paddedOf s (layoutAt (stationAt ys i) a)) maxCount)) (A .count i)
+
+  module _ (number cells moves : ℕ) where
+    rules-agree : judge (routeRules s xs number cells moves) ≡ judge (routeRules s ys number cells moves)
+    unfolding countsKept layoutsKept sizesKept
+    rules-agree =
+        rw (
+          A .long,
+          every-agree (λ (i : ℕ). goodCount (stationAt xs i)) (λ (i : ℕ). goodCount (stationAt ys i)) (min number (length ys)) (λ i l. ap (λ (c : ℕ). leb 1 c && leb c 8) (A .count i)),
+          every-agree (λ (i : ℕ). goodLayouts (s .rank) (stationAt xs i)) (λ (i : ℕ). goodLayouts (s .rank) (stationAt ys i)) (min number (length ys)) (λ i l. layouts-agree i),
+          every-agree (λ (i : ℕ). goodSizes s (stationAt xs i)) (λ (i : ℕ). goodSizes s (stationAt ys i)) (min number (length ys)) (λ i l. sizes-agree i),
+        )
+
+    module _ (clean : breaksNoRule s xs number cells moves) where
+      alike : Alike (netOf s xs number cells) (netOf s ys number cells)
+      alike =
+          record {
+            stations = refl;
+            cells = refl;
+            some = λ i l. counts-low xs number (unbroken s xs number cells moves clean .counts) i l .0;
+            count = λ i l. A .count i;
+            size = λ i a l g. padded-agree s _ _ (A .layouts i a g);
+            moved = λ i a b l g f. move-agree _ _ _ _ (A .layouts i a g) (A .layouts (i + 1) b f);
+          }
+
+      done-agree : routeOf s xs number cells moves ≡ routeOf s ys number cells moves
+      done-agree = go (hasPlan (netOf s xs number cells) moves) refl
+        where
+          clean2 : breaksNoRule s ys number cells moves
+          clean2 = sym rules-agree ∙ clean
+
+          has : hasPlan (netOf s xs number cells) moves ≡ hasPlan (netOf s ys number cells) moves
+          has = ap (λ (v : ℕ). ltb v far) (cost-alike _ _ alike moves)
+
+          go : (b : Bool) → hasPlan (netOf s xs number cells) moves ≡ b → routeOf s xs number cells moves ≡ routeOf s ys number cells moves
+          go false e = sym (answer-none s xs number cells moves clean e) ∙ answer-none s ys number cells moves clean2 (sym has ∙ e)
+          go true e =
+              let e2 = sym has ∙ e in
+              sym (answer-values s xs number cells moves clean e)
+              ∙ ap done
+              (ap₂ (λ (l : List ℕ) (t : ℕ). spread number l ++ (t ∷ [])) (best-alike _ _ alike moves)
+              (sym (best-found (netOf s xs number cells) moves (ltb-true _ _ e) .total)
+              ∙ cost-alike _ _ alike moves
+              ∙ best-found (netOf s ys number cells) moves (ltb-true _ _ e2) .total))
+              ∙ answer-values s ys number cells moves clean2 e2
+
+    -- What a record holds past its counts alters no answer and no refusal.
+    pub past-counts : routeOf s xs number cells moves ≡ routeOf s ys number cells moves
+    past-counts = go (judge (routeRules s xs number cells moves)) refl
+      where
+        go : (v : Verdict) → judge (routeRules s xs number cells moves) ≡ v → routeOf s xs number cells moves ≡ routeOf s ys number cells moves
+        go Done e = done-agree e
+        go (Refused r) e = sym (answer-refused s xs number cells moves r e) ∙ answer-refused s ys number cells moves r (sym rules-agree ∙ e)

@@ -1,0 +1,138 @@
+-- The theorems on a route: refused exactly when no plan is admitted; else the plan is admitted, least, and first in list order among equals. Assumes nothing.
+use mathlib.Core.Path.{_≡_, refl, sym, ap, _∙_}
+use mathlib.Core.Bool.{Bool, true, false, cond}
+use mathlib.Core.Logic.{_⊎_}
+use mathlib.Core.List.{List, [], _∷_, _++_}
+use Prim.Native.Nat.{ℕ, _+_, _≤_}
+use native.Mathlib.Omega.{arith}
+use borrow.Author.Tests.{ltb-true, ltb-false}
+use Rattle.refusal.specs.Number.{Answer, done, refusal}
+use Rattle.refusal.specs.Judge.{judge}
+use Rattle.refusal.specs.declared.Refusal.{Refusal}
+use Rattle.refusal.specs.declared.Refusal.the-variants.{NoPlan}
+use Rattle.refusal.specs.declared.Verdict.the-variants.{Refused}
+use Rattle.shape.specs.declared.Shape.{Shape}
+use Rattle.layout.specs.declared.Layout.{Layout}
+use Rattle.plan.specs.Net.{Net, planCost, Before, Admitted, Best}
+use Rattle.plan.specs.Value.{hasPlan}
+use Rattle.plan.specs.Answer.{spread}
+use Rattle.plan.proofs.Optimal.{Small}
+use Rattle.plan.proofs.Theorems.{best-found, none-found, best-one}
+use Rattle.route.specs.Same.{sameLayout, moveOf}
+use Rattle.route.specs.Stations.{stationAt, layoutAt, netOf}
+use Rattle.route.specs.Route.{routeRules, breaksNoRule, routeZeros, routePlan, routeValues, routeOf}
+use Rattle.route.specs.declared.Station.{Station}
+use Rattle.route.proofs.Written.{Written, written-same, same-written}
+use Rattle.route.proofs.Judging.{unbroken}
+use Rattle.route.proofs.Answering.{answer-refused, answer-none, answer-values}
+use Rattle.route.proofs.PastCounts.{StationsAgree, past-counts}
+
+-- Neighbours do not move exactly when their layouts have the same order and the same tiles, up to their counts.
+pub no-move : (a b : Layout) → moveOf a b ≡ 0 → Written a b
+no-move a b e = written-same a b (go (sameLayout a b) e)
+  where
+    go : (t : Bool) → _≡_ {A = ℕ} (cond t 0 1) 0 → t ≡ true
+    go true e = refl
+    go false e = absurd (omega arith)
+
+pub same-no-move : (a b : Layout) → Written a b → moveOf a b ≡ 0
+same-no-move a b w = ap (λ (t : Bool). cond {A = ℕ} t 0 1) (same-written a b w)
+
+-- What a record holds past its counts alters no answer and no refusal.
+pub past-counts-alter-nothing :
+    (s : Shape) (xs ys : List Station) →
+    StationsAgree xs ys →
+    (number cells moves : ℕ) →
+    routeOf s xs number cells moves ≡ routeOf s ys number cells moves
+past-counts-alter-nothing = past-counts
+
+-- Where one of the rules 1 to 9 is broken, the answer is the refusal of the first, with zeros.
+pub rule-refused :
+    (s : Shape) (ys : List Station) (number cells moves : ℕ) (r : Refusal) →
+    judge (routeRules s ys number cells moves) ≡ Refused r →
+    routeOf s ys number cells moves ≡ refusal routeZeros r
+rule-refused s ys number cells moves r e = sym (answer-refused s ys number cells moves r e)
+
+module _ (s : Shape) (ys : List Station) (number cells moves : ℕ) (clean : breaksNoRule s ys number cells moves) where
+  abbrev net : Net
+  net = netOf s ys number cells
+
+  abbrev plan : List ℕ
+  plan = routePlan s ys number cells moves
+
+  small : Small net
+  small =
+      record {
+        cells = unbroken s ys number cells moves clean .limits .cells-in;
+        moved = λ i a b. go (sameLayout (layoutAt (stationAt ys i) a) (layoutAt (stationAt ys (i + 1)) b));
+      }
+    where
+      go : (t : Bool) → cond t 0 1 ≤ 1
+      go true = omega arith
+      go false = omega arith
+
+  abbrev Refused10 : Type 0
+  Refused10 = routeOf s ys number cells moves .number ≡ 10
+
+  has-plan : (Refused10 → ⊥) → hasPlan net moves ≡ true
+  has-plan n = go (hasPlan net moves) refl
+    where
+      go : (b : Bool) → hasPlan net moves ≡ b → b ≡ true
+      go true e = refl
+      go false e = absurd (n (ap (λ (a : Answer ℕ). a .number) (sym (answer-none s ys number cells moves clean e))))
+
+  -- Of an input that breaks no rule: where a plan is admitted, the answer is done, with the best plan and its cost.
+  pub answered-best :
+      (p : List ℕ) →
+      Admitted net moves p →
+      (routeOf s ys number cells moves ≡ done (routeValues s ys number cells moves)) × Best net moves (planCost net plan) plan
+  answered-best p a = go (hasPlan net moves) refl
+    where
+      go :
+          (b : Bool) →
+          hasPlan net moves ≡ b →
+          (routeOf s ys number cells moves ≡ done (routeValues s ys number cells moves)) × Best net moves (planCost net plan) plan
+      go true e =
+          let B = best-found net moves (ltb-true _ _ e) in (
+            sym (answer-values s ys number cells moves clean e),
+            record { admitted = B .admitted; total = refl; least = B .least; first = B .first },
+          )
+      go false e =
+          absurd (none-found net moves small (unbroken s ys number cells moves clean .limits .few) (ltb-false _ _ e) p a)
+
+  -- It is refused with 10 exactly when no plan is admitted.
+  pub refused-when-none : ((p : List ℕ) → Admitted net moves p → ⊥) → routeOf s ys number cells moves ≡ refusal routeZeros NoPlan
+  refused-when-none none = go (hasPlan net moves) refl
+    where
+      go : (b : Bool) → hasPlan net moves ≡ b → routeOf s ys number cells moves ≡ refusal routeZeros NoPlan
+      go true e = absurd (none plan (best-found net moves (ltb-true _ _ e) .admitted))
+      go false e = sym (answer-none s ys number cells moves clean e)
+
+  pub none-when-refused : routeOf s ys number cells moves .number ≡ 10 → (p : List ℕ) → Admitted net moves p → ⊥
+  none-when-refused e p a =
+      let z : _≡_ {A = ℕ} 0 10 = sym (ap (λ (x : Answer ℕ). x .number) (answered-best p a .0)) ∙ e in
+      omega arith
+
+  module _ (not10 : routeOf s ys number cells moves .number ≡ 10 → ⊥) where
+    best : Best net moves (planCost net plan) plan
+    best = let B = best-found net moves (ltb-true _ _ (has-plan not10)) in record { admitted = B .admitted; total = refl; least = B .least; first = B .first }
+
+    -- Otherwise the values are the plan, one place a station and zeros in the unused ones, and its cost.
+    pub plan-and-total : routeOf s ys number cells moves ≡ done (spread number plan ++ (planCost net plan ∷ []))
+    plan-and-total = sym (answer-values s ys number cells moves clean (has-plan not10))
+
+    -- The plan keeps both limits.
+    pub plan-admitted : Admitted net moves plan
+    plan-admitted = best .admitted
+
+    -- Every admitted plan costs at least as much.
+    pub plan-least : (q : List ℕ) → Admitted net moves q → planCost net plan ≤ planCost net q
+    plan-least = best .least
+
+    -- Every other admitted plan of equal cost comes later in list order.
+    pub plan-first : (q : List ℕ) → Admitted net moves q → planCost net q ≡ planCost net plan → (q ≡ plan) ⊎ Before plan q
+    plan-first = best .first
+
+    -- So the answer is the only one that the rules allow.
+    pub only-answer : (q : List ℕ) (total : ℕ) → Best net moves total q → (q ≡ plan) × (total ≡ planCost net plan)
+    only-answer q total b = best-one net moves total (planCost net plan) q plan b best

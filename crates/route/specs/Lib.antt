@@ -1,0 +1,4 @@
+pub mod Same
+pub mod Stations
+pub mod Route
+pub mod Loading

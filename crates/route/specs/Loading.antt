@@ -1,0 +1,123 @@
+-- What is kept of the stations read so far. Assumes nothing.
+use Prim.Native.Nat.{ℕ, _+_, _*_, _/_, _%_, _^_, _≤_, _<_, min}
+use mathlib.Core.Path.{_≡_}
+use mathlib.Core.Bool.{true, _&&_, cond}
+use mathlib.Core.Logic.{_⊎_}
+use mathlib.Core.List.{List}
+use lib.Dec.{ltb}
+use lib.ListN.{length, getD}
+use Rattle.refusal.specs.Judge.{judge}
+use Rattle.refusal.specs.declared.Verdict.{Verdict}
+use Rattle.refusal.specs.declared.Verdict.the-variants.{Done}
+use Rattle.radix.specs.Radix.{maxCount}
+use Rattle.shape.specs.Shape.{goodShape}
+use Rattle.shape.specs.declared.Shape.{Shape}
+use Rattle.layout.specs.Layout.{goodLayout, paddedOf}
+use Rattle.plan.specs.Answer.{maxStations}
+use Rattle.route.specs.Same.{moveOf}
+use Rattle.route.specs.Stations.{maxLayouts, stationAt, layoutAt, countsKept, layoutsKept, sizesKept}
+use Rattle.route.specs.Route.{goodLimits, routeRules, routeAnswer, routeOf}
+use Rattle.route.specs.declared.Route.{Route}
+use Rattle.route.specs.declared.Station.{Station}
+use Rattle.route.specs.declared.load.Loaded.{Loaded}
+
+-- how many records to read, n: none where the shape breaks its limits or there are too many stations
+pub record Reads (s : Shape) (number len n : ℕ) : Type 0 where
+  pub few : n ≤ maxStations
+  pub held : n ≤ len
+  pub shape : 0 < n → goodShape s ≡ true
+  pub all : goodShape s ≡ true → number ≤ maxStations → n ≡ min number len
+
+-- a station whose layouts keep their rule
+pub record Fit (rank : ℕ) (x : Station) : Type 0 where
+  pub few : x .count ≤ maxLayouts
+  pub good : (a : ℕ) → a < x .count → goodLayout rank (layoutAt x a) ≡ true
+
+-- n entries from `at` on are f 0, f 1, .., and the others are as before
+pub record Filled (before after : List ℕ) (at n : ℕ) (f : ℕ → ℕ) : Type 0 where
+  pub long : length after ≡ length before
+  pub inside : (t : ℕ) → t < n → getD after (at + t) 0 ≡ f t
+  pub outside : (k : ℕ) → (k < at) ⊎ (at + n ≤ k) → getD after k 0 ≡ getD before k 0
+
+-- a padded size, exact up to 2^40 and 2^40 + 1 for anything above
+abbrev pub cappedSize : Shape → Station → ℕ → ℕ
+cappedSize s x a = min (paddedOf s (layoutAt x a)) (maxCount + 1)
+
+-- the moves from place t / 8 of a station to place t % 8 of the next, and 0 past their counts
+abbrev pub moveAt : Station → Station → ℕ → ℕ
+moveAt x y t =
+    cond (ltb (t / maxLayouts) (x .count) && ltb (t % maxLayouts) (y .count)) (moveOf (layoutAt x (t / maxLayouts)) (layoutAt y (t % maxLayouts))) 0
+
+-- the tables hold what the first n stations give
+pub record Entered (s : Shape) (ys : List Station) (n : ℕ) (h : Loaded) : Type 0 where
+  pub counts : (i : ℕ) → i < n → getD (h .counts) i 0 ≡ stationAt ys i .count
+  pub sizes : (i a : ℕ) → i < n → a < stationAt ys i .count → getD (h .sizes) (i * 8 + a) 0 ≡ cappedSize s (stationAt ys i) a
+  pub moved :
+      (i a b : ℕ) →
+      i + 1 < n →
+      a < stationAt ys i .count →
+      b < stationAt ys (i + 1) .count →
+      getD (h .moved) ((i * 8 + a) * 8 + b) 0 ≡ moveOf (layoutAt (stationAt ys i) a) (layoutAt (stationAt ys (i + 1)) b)
+  pub last : (j : ℕ) → n ≡ j + 1 → h .last ≡ stationAt ys j
+
+-- the tables' numbers, whatever the stations were
+pub record Sound (rank : ℕ) (h : Loaded) : Type 0 where
+  pub last : Fit rank (h .last)
+  pub counts : (i : ℕ) → getD (h .counts) i 0 ≤ maxLayouts
+  pub sizes : (k : ℕ) → getD (h .sizes) k 0 ≤ maxCount + 1
+  pub ones : (k : ℕ) → getD (h .moved) k 0 ≤ 1
+  pub start : (b : ℕ) → getD (h .moved) (4032 + b) 0 ≡ 0
+
+-- the moves of the first stations, with those to station i
+pub record MovesEntered (h : Loaded) (i : ℕ) (x : Station) (r : List ℕ) : Type 0 where
+  pub long : length r ≡ length (h .moved)
+  pub first : i ≡ 0 → r ≡ h .moved
+  pub more : (j : ℕ) → i ≡ j + 1 → Filled (h .moved) r (j * 64) (maxLayouts * maxLayouts) (moveAt (h .last) x)
+
+-- what reading station i asks
+pub record Ready (s : Shape) (h : Loaded) (i : ℕ) : Type 0 where
+  pub shape : goodShape s ≡ true
+  pub few : i < maxStations
+  pub sound : Sound (s .rank) h
+
+-- the first n stations are read
+pub record Holds (s : Shape) (ys : List Station) (n : ℕ) (h : Loaded) : Type 0 where
+  pub sound : Sound (s .rank) h
+  pub counts : h .«counts_kept» ≡ countsKept ys n
+  pub layouts : countsKept ys n ≡ true → h .«layouts_kept» ≡ layoutsKept s ys n
+  pub sizes : countsKept ys n ≡ true → layoutsKept s ys n ≡ true → h .«sizes_kept» ≡ sizesKept s ys n
+  pub entered : countsKept ys n ≡ true → layoutsKept s ys n ≡ true → Entered s ys n h
+
+-- nothing is read yet
+pub record Starts (h : Loaded) : Type 0 where
+  pub none : (s : Shape) (ys : List Station) → Holds s ys 0 h
+
+-- what reading n records of a list asks
+pub record Loads (s : Shape) (ys : List Station) (n : ℕ) (h : Loaded) : Type 0 where
+  pub few : n ≤ maxStations
+  pub held : n ≤ length ys
+  pub shape : 0 < n → goodShape s ≡ true
+  pub none : Holds s ys 0 h
+
+-- the station x is read after the first i
+pub record Adds (s : Shape) (h : Loaded) (i : ℕ) (x : Station) (r : Loaded) : Type 0 where
+  pub more : (ys : List Station) → Holds s ys i h → stationAt ys i ≡ x → Holds s ys (i + 1) r
+
+-- what the rules 1 to 9 say of every list of length len of which this was read
+pub record Judges (s : Shape) (h : Loaded) (len number cells moves : ℕ) (v : Verdict) : Type 0 where
+  pub limits : v ≡ Done → goodLimits number cells moves ≡ true
+  pub judged :
+      (ys : List Station) (n : ℕ) →
+      length ys ≡ len →
+      Reads s number len n →
+      Holds s ys n h →
+      v ≡ judge (routeRules s ys number cells moves)
+
+-- what the whole call says of it
+pub record Answers (s : Shape) (h : Loaded) (len number cells moves : ℕ) (r : Route) : Type 0 where
+  pub answer :
+      (ys : List Station) (n : ℕ) →
+      length ys ≡ len →
+      Reads s number len n →
+      Holds s ys n h →
+      routeAnswer r ≡ routeOf s ys number cells moves

@@ -1,0 +1,64 @@
+-- Stations: their layouts, their rules, and what a list of them gives the planner. Assumes nothing.
+use Prim.Native.Nat.{ℕ, _+_}
+use mathlib.Core.Bool.{Bool, _&&_}
+use mathlib.Core.List.{List, []}
+use lib.Dec.{leb}
+use lib.ListN.{getD}
+use Rattle.radix.specs.Radix.{maxCount, every}
+use Rattle.shape.specs.declared.Shape.{Shape}
+use Rattle.layout.specs.Layout.{goodLayout, paddedOf}
+use Rattle.layout.specs.declared.Layout.{Layout}
+use Rattle.plan.specs.Net.{Net}
+use Rattle.route.specs.Same.{moveOf}
+use Rattle.route.specs.declared.Station.{Station}
+
+-- the most layouts of a station
+abbrev pub maxLayouts : ℕ
+maxLayouts = 8
+
+-- what a list gives past its end
+abbrev pub blankLayout : Layout
+blankLayout = record { rank = 0; «minor_to_major» = []; tiles = 0; «tile_len» = []; tile = [] }
+
+unfoldable pub blank : Station
+blank = record { count = 0; layouts = [] }
+
+-- station i, and its layout at place a
+abbrev pub stationAt : List Station → ℕ → Station
+stationAt ys i = getD ys i blank
+
+abbrev pub layoutAt : Station → ℕ → Layout
+layoutAt x a = getD (x .layouts) a blankLayout
+
+-- 1 to 8 layouts
+abbrev pub goodCount : Station → Bool
+goodCount x = leb 1 (x .count) && leb (x .count) maxLayouts
+
+-- every layout keeps its rule
+abbrev pub goodLayouts : ℕ → Station → Bool
+goodLayouts rank x = every (λ (a : ℕ). goodLayout rank (layoutAt x a)) (x .count)
+
+-- every padded size is at most 2^40
+abbrev pub goodSizes : Shape → Station → Bool
+goodSizes s x = every (λ (a : ℕ). leb (paddedOf s (layoutAt x a)) maxCount) (x .count)
+
+-- the same for the first n stations
+unfoldable pub countsKept : List Station → ℕ → Bool
+countsKept ys n = every (λ (i : ℕ). goodCount (stationAt ys i)) n
+
+unfoldable pub layoutsKept : Shape → List Station → ℕ → Bool
+layoutsKept s ys n = every (λ (i : ℕ). goodLayouts (s .rank) (stationAt ys i)) n
+
+unfoldable pub sizesKept : Shape → List Station → ℕ → Bool
+sizesKept s ys n = every (λ (i : ℕ). goodSizes s (stationAt ys i)) n
+
+-- the stations as the planner sees them: padded sizes, and where neighbours move
+abbrev pub netOf : Shape → List Station → ℕ → ℕ → Net
+netOf s ys number cells =
+    record {
+      stations = number;
+      count = λ i. stationAt ys i .count;
+      size = λ i a. paddedOf s (layoutAt (stationAt ys i) a);
+      moved = λ i a b. moveOf (layoutAt (stationAt ys i) a) (layoutAt (stationAt ys (i + 1)) b);
+      cells = cells;
+    }

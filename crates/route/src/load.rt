@@ -1,0 +1,227 @@
+// What is kept of the stations read so far: whether they keep their rules, and the planner's tables.
+use super::Station;
+use super::same;
+use layout::Layout;
+use shape::Shape;
+ghost use mathlib.Core.Path.{_≡_};
+ghost use mathlib.Core.Bool.{true};
+ghost use Prim.Native.Nat.{ℕ, _+_, _-_, _*_, _<_, _≤_};
+ghost use lib.ListN.{length};
+ghost use Rattle.shape.specs.Shape.{goodShape};
+ghost use Rattle.plan.specs.Answer.{maxStations};
+ghost use Rattle.route.specs.Stations.{maxLayouts, stationAt, goodCount, goodLayouts, goodSizes};
+ghost use Rattle.route.specs.Loading.{Reads, Fit, Filled, cappedSize, moveAt, Sound, Ready, MovesEntered, Starts, Adds, Loads, Holds};
+
+// Whether the counts, the layouts and the padded sizes keep their rules; the planner's tables; and the last station read.
+pub struct Loaded {
+    pub counts_kept: bool,
+    pub layouts_kept: bool,
+    pub sizes_kept: bool,
+    pub counts: [usize; 64],
+    pub sizes: [u64; 512],
+    pub moved: [usize; 4096],
+    pub last: Station,
+}
+
+// Nothing is read yet.
+pub fn empty() -> Loaded
+    ensures { λ r. ⌜ Starts r ⌝ }
+{
+    let none = Layout {
+        rank: 0,
+        minor_to_major: [0u64; 6],
+        tiles: 0,
+        tile_len: [0usize; 3],
+        tile: [0u64; 18],
+    };
+    let last = Station {
+        count: 0,
+        layouts: [none; 8],
+    };
+    Loaded {
+        counts_kept: true,
+        layouts_kept: true,
+        sizes_kept: true,
+        counts: [0usize; 64],
+        sizes: [0u64; 512],
+        moved: [0usize; 4096],
+        last,
+    }
+}
+
+// How many records to read of a list of length len: none where the shape breaks its limits or there are too many stations.
+pub fn records(shape: Shape, number: usize, len: usize) -> usize
+    ensures { λ r. ⌜ Reads shape number len r ⌝ }
+{
+    if !shape::good_shape(shape) {
+        return 0;
+    }
+    if super::MAX_STATIONS < number {
+        return 0;
+    }
+    if number < len { number } else { len }
+}
+
+// The station has 1 to 8 layouts.
+fn good_count(station: Station) -> bool
+    ensures { λ r. ⌜ r ≡ goodCount station ⌝ }
+{
+    let count = station.count;
+    if count < 1 {
+        return false;
+    }
+    count <= super::MAX_LAYOUTS
+}
+
+// Every layout of the station keeps its rule.
+fn good_layouts(rank: usize, station: Station) -> bool
+    requires { ⌜ station .count ≤ maxLayouts ⌝ }
+    ensures { λ r. ⌜ r ≡ goodLayouts rank station ⌝ }
+{
+    let count = station.count;
+    let layouts = station.layouts;
+    let mut a: usize = 0;
+    while a < count {
+        if layout::good_layout(rank, layouts[a]) {
+            a += 1;
+        } else {
+            return false;
+        }
+    }
+    true
+}
+
+// Enters the padded sizes of a station from entry at on. Every one is at most 2^40.
+fn enter_sizes(shape: Shape, station: Station, at: usize, sizes: &mut [u64]) -> bool
+    requires { ⌜ (goodShape shape ≡ true) × (at + maxLayouts ≤ length (now sizes)) ⌝ }
+    requires { ⌜ Fit (shape .rank) station ⌝ }
+    ensures { λ r. ⌜ r ≡ goodSizes shape station ⌝ }
+    ensures { λ _. ⌜ Filled (now (sizes .entry)) (now (sizes .exit)) at (station .count) (cappedSize shape station) ⌝ }
+{
+    let count = station.count;
+    let layouts = station.layouts;
+    let mut kept = true;
+    let mut a: usize = 0;
+    while a < count {
+        let size = layout::inner::padded_capped(shape, layouts[a]);
+        sizes[at + a] = size;
+        if radix::MAX_COUNT < size {
+            kept = false;
+        }
+        a += 1;
+    }
+    kept
+}
+
+// The moves from place t / 8 of a station to place t % 8 of the next, and 0 past their counts.
+fn move_at(rank: usize, from: Station, to: Station, t: usize) -> usize
+    requires { ⌜ t < maxLayouts * maxLayouts ⌝ }
+    requires { ⌜ Fit rank from ⌝ }
+    requires { ⌜ Fit rank to ⌝ }
+    ensures { λ r. ⌜ r ≡ moveAt from to t ⌝ }
+{
+    let a = t / super::MAX_LAYOUTS;
+    if from.count <= a {
+        return 0;
+    }
+    let b = t % super::MAX_LAYOUTS;
+    if to.count <= b {
+        return 0;
+    }
+    let x = from.layouts;
+    let y = to.layouts;
+    if same::same_layout(rank, x[a], y[b]) {
+        0
+    } else {
+        1
+    }
+}
+
+// Enters the moves from a station to the next from entry at on.
+fn enter_moves(rank: usize, from: Station, to: Station, at: usize, moved: &mut [usize])
+    requires { ⌜ at + maxLayouts * maxLayouts ≤ length (now moved) ⌝ }
+    requires { ⌜ Fit rank from ⌝ }
+    requires { ⌜ Fit rank to ⌝ }
+    ensures { λ _. ⌜ Filled (now (moved .entry)) (now (moved .exit)) at (maxLayouts * maxLayouts) (moveAt from to) ⌝ }
+{
+    let n = super::MAX_LAYOUTS * super::MAX_LAYOUTS;
+    let mut t: usize = 0;
+    while t < n {
+        moved[at + t] = move_at(rank, from, to, t);
+        t += 1;
+    }
+}
+
+// The moves from the last station to this one, station i, beside those before it.
+fn with_moves(rank: usize, loaded: Loaded, i: usize, station: Station) -> [usize; 4096]
+    requires { ⌜ i < maxStations ⌝ }
+    requires { ⌜ Fit rank (loaded .last) ⌝ }
+    requires { ⌜ Fit rank station ⌝ }
+    ensures { λ r. ⌜ MovesEntered loaded i station r ⌝ }
+{
+    let mut moved = loaded.moved;
+    if i == 0 {
+        return moved;
+    }
+    let last = loaded.last;
+    enter_moves(rank, last, station, (i - 1) * 64, &mut moved);
+    moved
+}
+
+// The station, which keeps its rules 2 and 3, is station i.
+fn enter(shape: Shape, loaded: Loaded, i: usize, station: Station) -> Loaded
+    requires { ⌜ (goodShape shape ≡ true) × (i < maxStations) ⌝ }
+    requires { ⌜ Sound (shape .rank) loaded ⌝ }
+    requires { ⌜ (goodCount station ≡ true) × (goodLayouts (shape .rank) station ≡ true) ⌝ }
+    ensures { λ r. ⌜ Adds shape loaded i station r ⌝ }
+{
+    let moved = with_moves(shape.rank, loaded, i, station);
+    let mut counts = loaded.counts;
+    counts[i] = station.count;
+    let mut sizes = loaded.sizes;
+    let kept = enter_sizes(shape, station, i * 8, &mut sizes);
+    let mut sizes_kept = false;
+    if kept {
+        sizes_kept = loaded.sizes_kept;
+    }
+    Loaded {
+        counts_kept: loaded.counts_kept,
+        layouts_kept: loaded.layouts_kept,
+        sizes_kept,
+        counts,
+        sizes,
+        moved,
+        last: station,
+    }
+}
+
+// One station more, station i.
+pub fn add(shape: Shape, loaded: Loaded, i: usize, station: Station) -> Loaded
+    requires { ⌜ Ready shape loaded i ⌝ }
+    ensures { λ r. ⌜ Adds shape loaded i station r ⌝ }
+{
+    let mut next = loaded;
+    if !good_count(station) {
+        next.counts_kept = false;
+        return next;
+    }
+    if !good_layouts(shape.rank, station) {
+        next.layouts_kept = false;
+        return next;
+    }
+    enter(shape, loaded, i, station)
+}
+
+// Reads the first n records of the list.
+pub fn load(shape: Shape, stations: &[Station], n: usize, start: Loaded) -> Loaded
+    requires { ⌜ Loads shape (now stations) n start ⌝ }
+    ensures { λ r. ⌜ Holds shape (now (stations .entry)) n r ⌝ }
+{
+    let mut loaded = start;
+    let mut i: usize = 0;
+    while i < n {
+        loaded = add(shape, loaded, i, stations[i]);
+        i += 1;
+    }
+    loaded
+}

@@ -1,0 +1,39 @@
+//! Random request lines by kind: layouts, routes, or a mix of all kinds.
+
+use crate::random::Random;
+use crate::random_requests::random_line;
+use crate::random_routes::random_route_line;
+
+#[derive(Clone, Copy, Debug, PartialEq, Eq)]
+pub enum Kind {
+    Layout,
+    Route,
+}
+
+/// The kinds of a mix; each stands as often as its share is.
+const MIX: [Kind; 4] = [Kind::Layout, Kind::Layout, Kind::Layout, Kind::Route];
+
+impl Kind {
+    pub fn named(name: &str) -> Option<Kind> {
+        match name {
+            "layout" => Some(Kind::Layout),
+            "route" => Some(Kind::Route),
+            _ => None,
+        }
+    }
+}
+
+/// The given number of lines of one kind, or of all kinds, each with its line end.
+pub fn random_lines(seed: u64, count: u64, kind: Option<Kind>) -> Vec<u8> {
+    let mut random = Random::new(seed);
+    let mut lines = Vec::new();
+    for _ in 0..count {
+        let kind = kind.unwrap_or_else(|| random.pick(&MIX));
+        lines.extend(match kind {
+            Kind::Layout => random_line(&mut random),
+            Kind::Route => random_route_line(&mut random),
+        });
+        lines.push(b'\n');
+    }
+    lines
+}
