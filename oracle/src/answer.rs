@@ -1,8 +1,13 @@
 //! Answers: from the bytes of a whole input to the answer blocks of its requests.
 
 use crate::buffer::{load, pack, store, unpack};
+use crate::fold::fold;
 use crate::grid::grid;
 use crate::layout::{padded_size, Layout};
+use crate::map::{Interval, Map};
+use crate::map_range::result_ranges;
+use crate::map_text::{interval_text, map_text};
+use crate::map_value::evaluate;
 use crate::offset::{offset_of_point, point_at_offset};
 use crate::refusal::Refusal;
 use crate::request::{read_request, Question, Request};
@@ -61,6 +66,11 @@ fn answer_request(request: &Request) -> String {
             question,
         } => answer_question(shape, *column, layout, question),
         Request::Route(route) => best_plan(route).map(|plan| plan_text(&plan)),
+        Request::Eval { map, point } => {
+            evaluate(map, point).map(|values| format!("value {}", tuple(&values)))
+        }
+        Request::Range(map) => ranges_answer(map),
+        Request::Fold(map) => fold(map).map(|folded| map_text(&folded)),
     };
     answer.unwrap_or_else(|refusal| format!("refused {}", refusal.number()))
 }
@@ -159,8 +169,14 @@ fn own_offsets(length: u64) -> Vec<u32> {
     (0..length as u32).collect()
 }
 
-fn tuple(point: &[u64]) -> String {
-    let coordinates: Vec<String> = point.iter().map(u64::to_string).collect();
+fn ranges_answer(map: &Map) -> Result<String, Refusal> {
+    let range_text = |range: &Interval| format!(" {}", interval_text(range));
+    let ranges: String = result_ranges(map)?.iter().map(range_text).collect();
+    Ok(format!("ranges{ranges}"))
+}
+
+fn tuple<T: ToString>(point: &[T]) -> String {
+    let coordinates: Vec<String> = point.iter().map(T::to_string).collect();
     format!("({})", coordinates.join(", "))
 }
 

@@ -1,5 +1,6 @@
 //! Brute force: small cases compared with a second reading of the documents.
 
+use crate::brute_maps::brute_maps;
 use crate::brute_routes::brute_routes;
 use crate::buffer::{pack, unpack};
 use crate::layout::{padded_size, Layout};
@@ -29,6 +30,7 @@ pub fn brute() -> Result<u64, String> {
     let mut tally = Tally { comparisons: 0 };
     brute_layouts(&mut tally)?;
     brute_routes(&mut tally)?;
+    brute_maps(&mut tally)?;
     Ok(tally.comparisons)
 }
 

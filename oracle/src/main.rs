@@ -2,19 +2,37 @@
 
 mod answer;
 mod brute;
+mod brute_maps;
 mod brute_routes;
 mod buffer;
 mod damage;
+mod expression_reader;
+mod fold;
+mod fold_rules;
+mod fold_sum;
 mod grid;
 mod layout;
+mod map;
+mod map_range;
+mod map_reader;
+mod map_rule;
+mod map_text;
+mod map_value;
 mod offset;
 mod pad_reshape_transpose;
 mod random;
+mod random_expressions;
 mod random_kinds;
+mod random_map_lines;
+mod random_maps;
 mod random_pieces;
 mod random_requests;
+mod random_route_breaks;
+mod random_route_limits;
 mod random_routes;
+mod random_tight_maps;
 mod reader;
+mod reader_maps;
 mod refusal;
 mod request;
 mod route;
@@ -25,6 +43,8 @@ mod small_cases;
 #[cfg(test)]
 mod tests;
 #[cfg(test)]
+mod tests_maps;
+#[cfg(test)]
 mod tests_routes;
 mod token;
 mod vectors;
@@ -34,6 +54,10 @@ mod vectors_grids;
 mod vectors_layouts;
 mod vectors_long_lines;
 mod vectors_long_routes;
+mod vectors_map_counts;
+mod vectors_map_rules;
+mod vectors_map_unreadable;
+mod vectors_maps;
 mod vectors_order;
 mod vectors_places;
 mod vectors_routes;
@@ -47,7 +71,8 @@ use std::process::ExitCode;
 
 use random_kinds::{random_lines, Kind};
 
-const USAGE: &str = "usage: oracle answer | random SEED N [layout | route] | vectors [DIR] | brute";
+const USAGE: &str =
+    "usage: oracle answer | random SEED N [layout | route | map] | vectors [DIR [--maps]] | brute";
 
 /// Where `vectors` writes when no directory is given.
 const VECTORS_DIRECTORY: &str = "crates/zungatewi";
@@ -62,8 +87,9 @@ fn main() -> ExitCode {
             Some(kind) => random(seed, count, Some(kind)),
             None => return usage(),
         },
-        ["vectors"] => vectors::write_vectors(VECTORS_DIRECTORY),
-        ["vectors", directory] => vectors::write_vectors(directory),
+        ["vectors"] => vectors::write_vectors(VECTORS_DIRECTORY, false),
+        ["vectors", directory] => vectors::write_vectors(directory, false),
+        ["vectors", directory, "--maps"] => vectors::write_vectors(directory, true),
         ["brute"] => return brute(),
         _ => return usage(),
     };

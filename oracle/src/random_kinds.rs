@@ -1,6 +1,7 @@
-//! Random request lines by kind: layouts, routes, or a mix of all kinds.
+//! Random request lines by kind: layouts, routes, maps, or a mix of the kinds that the program answers.
 
 use crate::random::Random;
+use crate::random_map_lines::random_map_line;
 use crate::random_requests::random_line;
 use crate::random_routes::random_route_line;
 
@@ -8,9 +9,10 @@ use crate::random_routes::random_route_line;
 pub enum Kind {
     Layout,
     Route,
+    Map,
 }
 
-/// The kinds of a mix; each stands as often as its share is.
+/// The kinds of a mix; each stands as often as its share is. The program does not answer maps yet.
 const MIX: [Kind; 4] = [Kind::Layout, Kind::Layout, Kind::Layout, Kind::Route];
 
 impl Kind {
@@ -18,12 +20,13 @@ impl Kind {
         match name {
             "layout" => Some(Kind::Layout),
             "route" => Some(Kind::Route),
+            "map" => Some(Kind::Map),
             _ => None,
         }
     }
 }
 
-/// The given number of lines of one kind, or of all kinds, each with its line end.
+/// The given number of lines of one kind, or of a mix, each with its line end.
 pub fn random_lines(seed: u64, count: u64, kind: Option<Kind>) -> Vec<u8> {
     let mut random = Random::new(seed);
     let mut lines = Vec::new();
@@ -32,6 +35,7 @@ pub fn random_lines(seed: u64, count: u64, kind: Option<Kind>) -> Vec<u8> {
         lines.extend(match kind {
             Kind::Layout => random_line(&mut random),
             Kind::Route => random_route_line(&mut random),
+            Kind::Map => random_map_line(&mut random),
         });
         lines.push(b'\n');
     }

@@ -1,25 +1,28 @@
 //! Random route lines: ties, moves between like layouts, limits that just fit, and every refusal.
 
-use crate::layout::{judge_layout, padded_size, Layout};
+use crate::layout::padded_size;
 use crate::random::Random;
 use crate::random_pieces::{random_draft, random_minor_to_major, random_tiles, Draft};
 use crate::random_requests::{joined, layout_text, spaced};
+use crate::random_route_breaks::break_rule;
+use crate::random_route_limits::limit;
 use crate::refusal::Refusal;
 use crate::route::{best_plan, Route};
 use crate::shape::element_count;
 
-const TOP_COUNT: i64 = 1 << 40;
+/// The largest cell limit.
+pub const TOP_COUNT: i64 = 1 << 40;
 
 /// A route as it is written; each draft has the shape's sizes.
-struct RouteDraft {
-    sizes: Vec<i64>,
-    cell_limit: i64,
-    move_limit: i64,
-    stations: Vec<Vec<Draft>>,
+pub struct RouteDraft {
+    pub sizes: Vec<i64>,
+    pub cell_limit: i64,
+    pub move_limit: i64,
+    pub stations: Vec<Vec<Draft>>,
 }
 
 impl RouteDraft {
-    fn route(&self) -> Route {
+    pub fn route(&self) -> Route {
         let layouts = |station: &Vec<Draft>| station.iter().map(Draft::layout).collect();
         let unsigned = |number: i64| u64::try_from(number).unwrap_or(u64::MAX);
         Route {
@@ -183,114 +186,4 @@ fn draft(sizes: &[i64]) -> Draft {
 
 fn is_good(layout: &Draft) -> bool {
     padded_size(&layout.shape(), &layout.layout()).is_ok()
-}
-
-/// Sets limits around what the stations need.
-fn limit(random: &mut Random, draft: &mut RouteDraft) {
-    let mut sizes: Vec<i64> = Vec::new();
-    for layout in draft.stations.iter().flatten() {
-        let padded = padded_size(&layout.shape(), &layout.layout());
-        sizes.extend(padded.map(|padded| padded as i64));
-    }
-    sizes.push(1);
-    let size = random.pick(&sizes);
-    let largest = *sizes.iter().max().expect("the list is not empty");
-    draft.cell_limit = match random.below(100) {
-        0..=44 => TOP_COUNT,
-        45..=59 => largest,
-        60..=69 => (largest - 1).max(1),
-        70..=84 => size,
-        85..=92 => (size - 1).max(1),
-        _ => random.between(1, TOP_COUNT),
-    };
-    let stations = draft.stations.len() as i64;
-    draft.move_limit = match random.below(100) {
-        0..=33 => needed_moves(draft),
-        34..=44 => (needed_moves(draft) - 1).max(0),
-        45..=59 => best_moves(draft),
-        60..=74 => (best_moves(draft) - 1).max(0),
-        75..=79 => 0,
-        80..=89 => random.between(0, stations.min(63)),
-        _ => random.between(0, 63),
-    };
-}
-
-/// The fewest moves with which some plan is admitted; 0 where none is.
-fn needed_moves(draft: &RouteDraft) -> i64 {
-    let mut route = draft.route();
-    let admitted = |moves: &u64| {
-        route.move_limit = *moves;
-        best_plan(&route).is_ok()
-    };
-    (0..=63).find(admitted).unwrap_or(0) as i64
-}
-
-/// The moves of the plan that is best when 63 are allowed; 0 where none is admitted.
-fn best_moves(draft: &RouteDraft) -> i64 {
-    let mut route = draft.route();
-    route.move_limit = 63;
-    let Ok(plan) = best_plan(&route) else {
-        return 0;
-    };
-    let chosen: Vec<&Layout> = (0..plan.places.len())
-        .map(|station| &route.stations[station][plan.places[station]])
-        .collect();
-    chosen.windows(2).filter(|pair| pair[0] != pair[1]).count() as i64
-}
-
-/// Breaks one rule: a shape, a limit, a count, a layout or a padded size.
-fn break_rule(random: &mut Random, draft: &mut RouteDraft) {
-    match random.below(12) {
-        0 => break_shape(random, draft),
-        1 | 2 => draft.cell_limit = random.pick(&[0, -1, TOP_COUNT + 1, i64::MAX, i64::MIN]),
-        3 | 4 => draft.move_limit = random.pick(&[64, 65, -1, i64::MAX, i64::MIN]),
-        5 => {
-            let station = random.pick_place(draft.stations.len());
-            let layout = draft.stations[station][0].clone();
-            draft.stations[station].resize(random.pick(&[8, 9, 9, 10]), layout);
-        }
-        6 => {
-            let station = draft.stations[0].clone();
-            draft
-                .stations
-                .resize(random.pick(&[64, 65, 65, 66]), station);
-        }
-        7..=9 => break_layout(random, draft),
-        _ => {
-            let layout = any_layout(random, draft);
-            // For every rank from 1 on these pad to more than 2^40 cells.
-            layout.tiles = vec![vec![1024], vec![1024; 2], vec![1024, 1024, 1000, 1024]];
-        }
-    }
-}
-
-fn break_shape(random: &mut Random, draft: &mut RouteDraft) {
-    let size = random.pick(&[0, -1, (1 << 20) + 1, i64::MAX]);
-    match draft.sizes.last_mut() {
-        Some(last) => *last = size,
-        None => draft.sizes = vec![1; 7],
-    }
-}
-
-fn break_layout(random: &mut Random, draft: &mut RouteDraft) {
-    let rank = draft.sizes.len();
-    let layout = any_layout(random, draft);
-    for _ in 0..20 {
-        match random.below(5) {
-            0 => layout.minor_to_major.push(0),
-            1 if rank > 0 => layout.minor_to_major[0] = random.pick(&[rank as i64, -1]),
-            2 => layout.tiles.push(vec![random.pick(&[0, 1025, -1])]),
-            3 => layout.tiles = vec![vec![1]; 4],
-            _ => layout.tiles.push(vec![]),
-        }
-        if judge_layout(rank, &layout.layout()).is_err() {
-            return;
-        }
-    }
-}
-
-fn any_layout<'a>(random: &mut Random, draft: &'a mut RouteDraft) -> &'a mut Draft {
-    let station = random.pick_place(draft.stations.len());
-    let place = random.pick_place(draft.stations[station].len());
-    &mut draft.stations[station][place]
 }

@@ -11,8 +11,8 @@ pub struct Unreadable {
 }
 
 pub struct Reader<'a> {
-    line: &'a [u8],
-    ahead: Placed<'a>,
+    pub line: &'a [u8],
+    pub ahead: Placed<'a>,
 }
 
 impl<'a> Reader<'a> {
@@ -133,7 +133,7 @@ impl<'a> Reader<'a> {
         ahead
     }
 
-    fn symbol(&mut self, symbol: u8) -> Result<(), Unreadable> {
+    pub fn symbol(&mut self, symbol: u8) -> Result<(), Unreadable> {
         if self.ahead.token == Token::Symbol(symbol) {
             self.advance();
             return Ok(());
@@ -141,11 +141,11 @@ impl<'a> Reader<'a> {
         self.unreadable()
     }
 
-    fn advance(&mut self) {
+    pub fn advance(&mut self) {
         self.ahead = token_at(self.line, self.ahead.end);
     }
 
-    fn unreadable<T>(&self) -> Result<T, Unreadable> {
+    pub fn unreadable<T>(&self) -> Result<T, Unreadable> {
         Err(Unreadable {
             column: self.column(),
         })

@@ -8,6 +8,8 @@ pub enum Refusal {
     PaddedSize = 4,
     Outside = 5,
     PointLength = 6,
+    Counts = 7,
+    Working = 8,
     ShortBuffer = 9,
     NoPlan = 10,
 }

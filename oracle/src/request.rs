@@ -1,6 +1,9 @@
 //! Requests: what each line can ask, and how it is read.
 
 use crate::layout::Layout;
+use crate::map::Map;
+use crate::map_reader::read_map;
+use crate::map_value::MapPoint;
 use crate::reader::{Reader, Unreadable};
 use crate::route::Route;
 use crate::shape::Shape;
@@ -26,6 +29,12 @@ pub enum Request {
         question: Question,
     },
     Route(Route),
+    Eval {
+        map: Map,
+        point: MapPoint,
+    },
+    Range(Map),
+    Fold(Map),
 }
 
 /// What is asked about a shape with a layout.
@@ -76,6 +85,9 @@ pub fn read_request(line: &[u8]) -> Result<Request, Unreadable> {
             element: reader.unsigned()?,
         },
         b"route" => Request::Route(route(&mut reader)?),
+        b"eval" => eval(&mut reader)?,
+        b"range" => Request::Range(read_map(&mut reader)?),
+        b"fold" => Request::Fold(read_map(&mut reader)?),
         word if is_placed(word) => placed(word, &mut reader)?,
         _ => return Err(Unreadable { column }),
     };
@@ -107,6 +119,19 @@ fn station(reader: &mut Reader) -> Result<Vec<Layout>, Unreadable> {
         layouts.push(reader.layout()?);
     }
     Ok(layouts)
+}
+
+/// Reads MAP, the word at, the point, and the range variables' values if they are there.
+fn eval(reader: &mut Reader) -> Result<Request, Unreadable> {
+    let map = read_map(reader)?;
+    reader.exact_word(b"at")?;
+    let dimensions = reader.signed_list(b'(', b')')?;
+    let mut ranges = Vec::new();
+    if reader.is_ahead(b'[') {
+        ranges = reader.signed_list(b'[', b']')?;
+    }
+    let point = MapPoint { dimensions, ranges };
+    Ok(Request::Eval { map, point })
 }
 
 fn is_placed(word: &[u8]) -> bool {

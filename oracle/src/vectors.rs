@@ -12,6 +12,10 @@ use crate::vectors_grids::GRIDS;
 use crate::vectors_layouts::LAYOUTS;
 use crate::vectors_long_lines::long_lines;
 use crate::vectors_long_routes::long_routes;
+use crate::vectors_map_counts::map_counts;
+use crate::vectors_map_rules::MAP_RULES;
+use crate::vectors_map_unreadable::{long_maps, MAP_TOKENS};
+use crate::vectors_maps::MAPS;
 use crate::vectors_order::ORDER;
 use crate::vectors_places::PLACES;
 use crate::vectors_routes::{ROUTES, UNREADABLE_ROUTES};
@@ -31,21 +35,25 @@ const TABLES: &[&[Group]] = &[
 const SEED: u64 = 20_010_001;
 const RANDOM_REQUESTS: u64 = 3000;
 const RANDOM_ROUTES: u64 = 2000;
+const RANDOM_MAPS: u64 = 4000;
 
-/// Writes both files into a directory.
-pub fn write_vectors(directory: &str) -> io::Result<()> {
+/// Writes both files into a directory, with maps or without.
+pub fn write_vectors(directory: &str, with_maps: bool) -> io::Result<()> {
     let directory = Path::new(directory);
-    let requests = requests();
+    let requests = requests(with_maps);
     fs::create_dir_all(directory)?;
     fs::write(directory.join("stdin"), &requests)?;
     fs::write(directory.join("stdout"), answer_input(&requests))
 }
 
 /// The bytes of `stdin`. Its last line ends with the input.
-fn requests() -> Vec<u8> {
+fn requests(with_maps: bool) -> Vec<u8> {
     let mut bytes = Vec::new();
     layouts(&mut bytes);
     routes(&mut bytes);
+    if with_maps {
+        maps(&mut bytes);
+    }
     bytes.extend(b"# a last line that ends at the end of the input\n");
     bytes.extend(b"offset [3,5] {1,0:T(2,2)} (2,3)");
     bytes
@@ -73,6 +81,18 @@ fn routes(bytes: &mut Vec<u8>) {
     long_routes(&mut text);
     bytes.extend(text.bytes());
     random_group(bytes, "routes", RANDOM_ROUTES, Kind::Route);
+}
+
+/// The requests about maps.
+fn maps(bytes: &mut Vec<u8>) {
+    let mut text = String::new();
+    for (title, lines) in MAPS.iter().chain(MAP_RULES).chain(MAP_TOKENS) {
+        group(&mut text, title, lines.iter());
+    }
+    map_counts(&mut text);
+    long_maps(&mut text);
+    bytes.extend(text.bytes());
+    random_group(bytes, "maps", RANDOM_MAPS, Kind::Map);
 }
 
 /// Adds a comment, and random lines of one kind.

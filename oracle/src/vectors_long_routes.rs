@@ -37,8 +37,8 @@ pub fn long_routes(text: &mut String) {
 
 /// Routes that fill every place, and lines that are full.
 fn full_routes(text: &mut String) {
-    let eight = vec!["{0}"; 8].join(" ");
-    let nine = vec!["{0}"; 9].join(" ");
+    let eight = ["{0}"; 8].join(" ");
+    let nine = ["{0}"; 9].join(" ");
     let lines = [
         format!("route [3] 4 0 {}", repeated(&[&eight], 64)),
         format!("route [3] 4 0 {} ; {nine}", repeated(&[&eight], 63)),
