@@ -38,6 +38,9 @@ fn main() {
     let library = best_of_five(|seed| {
         black_box(unsafe { route_total(seed, MOVES) });
     });
+    let still = best_of_five(|seed| {
+        black_box(unsafe { route_total(seed, 0) });
+    });
     let plain = best_of_five(|seed| {
         black_box(ordinary::route(&stations::stations(seed), MOVES as usize));
     });
@@ -50,5 +53,6 @@ fn main() {
     let micro = |s: f64| s * 1e6 / RUNS as f64;
     println!("library   {:8.1} us a route, of which {:.1} us make the stations", micro(library), micro(made));
     println!("ordinary  {:8.1} us a route, of which {:.1} us make the stations", micro(plain), micro(made_plain));
+    println!("library, K = 0  {:.1} us a route", micro(still));
     println!("ratio     {:8.2}", (library - made) / (plain - made_plain));
 }
