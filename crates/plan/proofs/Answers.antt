@@ -5,7 +5,7 @@ use mathlib.Core.Bool.{true, false}
 use mathlib.Core.List.{List}
 use native.Mathlib.Omega.{arith}
 use borrow.Author.Tests.{lt-ltb, le-ltb}
-use lib.ListN.{length, getD, replicate}
+use lib.ListN.{getD, replicate}
 use Rattle.plan.specs.Net.{Net, still}
 use Rattle.plan.specs.Value.{far, leastOf, valueOf, leastCost, bestPlan}
 use Rattle.plan.specs.Tabled.{tabled, Filled, Usable}
@@ -15,21 +15,21 @@ use Rattle.plan.proofs.Entries.{ready-at, least-here}
 use Rattle.plan.proofs.Walking.{start-same}
 
 module _ (counts sizes moved : List ℕ) (n cells : ℕ) (T : Usable counts sizes moved n cells) (moves : ℕ) (few : moves < 64)
-    (costs : List ℕ) (long : length costs ≡ 32768) (full : Filled (tabled counts sizes moved n cells) costs 0) where
+    (costs : List ℕ) (full : Filled (tabled counts sizes moved n cells) moves costs 0) where
   abbrev N : Net
   N = tabled counts sizes moved n cells
 
   pub first-ready : Ready sizes 0 0 moved 4032 costs 0 (getD counts 0 0) cells moves
   first-ready =
-      ready-at counts sizes moved n cells T costs 0 long full 0 moves 0 4032 (omega (arith, T .some)) few (omega arith) (omega arith) (omega arith)
+      ready-at counts sizes moved n cells T moves costs 0 few full 0 moves 0 4032 (omega (arith, T .some)) (omega arith) (omega arith) (omega arith) (omega arith)
 
   module _ (c : ℕ) (e : c ≡ leastOf (getD counts 0 0) (throughAt sizes 0 0 moved 4032 costs 0 cells moves)) where
     total-is : c ≡ leastCost N moves
     total-is =
         e
-        ∙ least-here counts sizes moved n cells costs 0 full 0 moves 0 moved 4032 still
+        ∙ least-here counts sizes moved n cells moves costs 0 full 0 moves 0 4032 still
         (omega (arith, T .some))
-        few
+        (omega arith)
         (omega arith)
         (T .count 0)
         (start-same counts sizes moved n cells T 0)

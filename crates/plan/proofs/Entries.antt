@@ -16,9 +16,9 @@ pub value-none : (N : Net) (k i m : ℕ) (from : Coming) → k ≡ 0 → valueOf
 unfolding valueOf
 value-none N k i m from e = rw e
 
-pub entry-last : (N : Net) (k : ℕ) → (N .stations - 1) * 512 ≤ k → k < N .stations * 512 → entryOf N k ≡ 0
+pub entry-last : (N : Net) (row m : ℕ) → (N .stations - 1) * 8 ≤ row → row < N .stations * 8 → entryOf N row m ≡ 0
 unfolding entryOf
-entry-last N k a b = value-none N _ _ _ _ (omega arith)
+entry-last N row m a b = value-none N _ _ _ _ (omega arith)
 
 -- One station more.
 value-more :
@@ -32,39 +32,37 @@ module _ (counts sizes moved : List ℕ) (n cells : ℕ) where
   abbrev net : Net
   net = tabled counts sizes moved n cells
 
-  module _ (costs : List ℕ) (t : ℕ) (full : Filled net costs t) where
+  module _ (moves : ℕ) (costs : List ℕ) (row : ℕ) (full : Filled net moves costs row) where
     -- the entry of place b of station i, with m moves left
     entry-at :
-        (i b m : ℕ) → i < n → b < 8 → m < 64 → t ≤ i * 512 →
+        (i b m : ℕ) → i < n → b < 8 → m ≤ moves → row ≤ i * 8 →
         getD costs (i * 512 + (b * 64 + m)) 0 ≡ valueOf net (n - (i + 1)) (i + 1) m (after net i b)
     unfolding entryOf
-    entry-at i b m hi hb hm ht =
-        let e1 : (i * 512 + (b * 64 + m)) / 512 ≡ i = omega arith in
-        let q : (i * 512 + (b * 64 + m)) / 64 ≡ i * 8 + b = omega arith in
-        let e2 : (i * 512 + (b * 64 + m)) % 64 ≡ m = omega arith in
-        let d : (i * 8 + b) / 8 ≡ i = omega arith in
-        let e3 : (i * 512 + (b * 64 + m)) / 64 % 8 ≡ b = rw q (omega arith) in
-        full (i * 512 + (b * 64 + m)) (omega arith) (omega arith) ∙ simp (entryOf, e1, e2, e3)
+    entry-at i b m hi hb hm hr =
+        let e : i * 512 + (b * 64 + m) ≡ (i * 8 + b) * 64 + m = omega arith in
+        let e1 : (i * 8 + b) / 8 ≡ i = omega arith in
+        let e2 : (i * 8 + b) % 8 ≡ b = omega arith in
+        ap (λ (k : ℕ). getD costs k 0) e ∙ full .right (i * 8 + b) m (omega arith) (omega arith) hm ∙ simp (entryOf, e1, e2)
 
     -- the scan of station i's places, come to in the way `from`
-    module _ (i m prev : ℕ) (moves : List ℕ) (base : ℕ) (from : Coming) (hi : i < n) (hm : m < 64) (ht : t ≤ i * 512)
-        (hc : getD counts i 0 ≤ 8) (hf : (b : ℕ) → Same (coming sizes (i * 8) prev moves base) from b) where
+    module _ (i m prev base : ℕ) (from : Coming) (hi : i < n) (hm : m ≤ moves) (hr : row ≤ i * 8)
+        (hc : getD counts i 0 ≤ 8) (hf : (b : ℕ) → Same (coming sizes (i * 8) prev moved base) from b) where
       agree :
           (b : ℕ) →
           b < getD counts i 0 →
-          throughAt sizes (i * 8) prev moves base costs (i * 512) cells m b
+          throughAt sizes (i * 8) prev moved base costs (i * 512) cells m b
           ≡ through cells m (net .size i) from (rest net (n - (i + 1)) i m from) b
       agree b l =
           through-agree cells m _ _ _ _ _ _ b refl (hf b)
           (ap (λ (x : ℕ). getD costs (i * 512 + (b * 64 + (m - x))) 0) (hf b .moves)
-          ∙ entry-at i b (m - from .moves b) hi (omega arith) (omega arith) ht)
+          ∙ entry-at i b (m - from .moves b) hi (omega arith) (omega arith) hr)
 
       pub least-here :
-          leastOf (getD counts i 0) (throughAt sizes (i * 8) prev moves base costs (i * 512) cells m) ≡ valueOf net (n - i) i m from
+          leastOf (getD counts i 0) (throughAt sizes (i * 8) prev moved base costs (i * 512) cells m) ≡ valueOf net (n - i) i m from
       least-here = least-agree _ _ _ agree ∙ sym (value-more net (n - i) (n - (i + 1)) i m from (omega arith))
 
       pub place-here :
-          placeOf (getD counts i 0) (throughAt sizes (i * 8) prev moves base costs (i * 512) cells m) ≡ choice net (n - (i + 1)) i m from
+          placeOf (getD counts i 0) (throughAt sizes (i * 8) prev moved base costs (i * 512) cells m) ≡ choice net (n - (i + 1)) i m from
       place-here = place-agree _ _ _ agree
 
 value-cap : (N : Net) (k i m : ℕ) (from : Coming) → valueOf N k i m from ≤ far
@@ -72,39 +70,35 @@ unfolding valueOf
 value-cap N zero i m from = omega arith
 value-cap N (suc k) i m from = least-cap _ _
 
-entry-cap : (N : Net) (k : ℕ) → entryOf N k ≤ far
-unfolding entryOf
-entry-cap N k = value-cap N _ _ _ _
-
 -- What the scan of station i's places asks.
 pub ready-at :
     (counts sizes moved : List ℕ) (n cells : ℕ) →
     Usable counts sizes moved n cells →
-    (costs : List ℕ) (t : ℕ) →
-    length costs ≡ 32768 →
-    Filled (tabled counts sizes moved n cells) costs t →
+    (moves : ℕ) (costs : List ℕ) (row : ℕ) →
+    moves < 64 →
+    Filled (tabled counts sizes moved n cells) moves costs row →
     (i m prev base : ℕ) →
     i < n →
-    m < 64 →
-    t ≤ i * 512 →
+    m ≤ moves →
+    row ≤ i * 8 →
     prev ≤ 2 ^ 41 →
     base + 8 ≤ 4096 →
     Ready sizes (i * 8) prev moved base costs (i * 512) (getD counts i 0) cells m
-ready-at counts sizes moved n cells T costs t long full i m prev base hi hm ht hp hb =
+ready-at counts sizes moved n cells T moves costs row few full i m prev base hi hm hr hp hb =
     record {
       sizes-in = omega (arith, T .few, T .sizes-in);
       prev-in = hp;
       moved-in = omega (arith, T .moved-in);
-      costs-in = omega (arith, T .few);
+      costs-in = omega (arith, T .few, full .long);
       count-in = T .count i;
       cells-in = T .cells-in;
-      m-in = hm;
+      m-in = omega arith;
       ones = T .ones;
       low =
-          λ k l.
+          λ b left hb hl.
           omega (
             arith,
-            full (i * 512 + k) (omega arith) (omega arith),
-            entry-cap (tabled counts sizes moved n cells) (i * 512 + k),
+            entry-at counts sizes moved n cells moves costs row full i b left hi hb (omega arith) hr,
+            value-cap (tabled counts sizes moved n cells) (n - (i + 1)) (i + 1) left (after (tabled counts sizes moved n cells) i b),
           );
     }

@@ -45,7 +45,7 @@ start-same counts sizes moved n cells T at b =
 pub record Walking (counts sizes moved : List ℕ) (n cells moves : ℕ) (out : List ℕ) (m base prev i : ℕ) : Type 0 where
   pub within : i ≤ n
   pub long : length out ≡ 64
-  pub left : m < 64
+  pub left : m ≤ moves
   pub low : prev ≤ 2 ^ 41
   pub based : base + 8 ≤ 4096
   pub whole :
@@ -63,12 +63,12 @@ module _ (counts sizes moved : List ℕ) (n cells : ℕ) (T : Usable counts size
       ∙ plan-coming net k 0 moves _ _ (start-same counts sizes moved n cells T 0)
       ∙ ap (λ (x : ℕ). planOf net x 0 moves still) (sym e)
 
-  pub walk-start : moves < 64 → Walking counts sizes moved n cells moves (replicate 64 0) moves 4032 0 0
-  walk-start h =
+  pub walk-start : Walking counts sizes moved n cells moves (replicate 64 0) moves 4032 0 0
+  walk-start =
       record {
         within = omega arith;
         long = refl;
-        left = h;
+        left = omega arith;
         low = omega arith;
         based = omega arith;
         whole = begin (n - 1) (omega (arith, T .some));
@@ -95,16 +95,16 @@ module _ (counts sizes moved : List ℕ) (n cells : ℕ) (T : Usable counts size
             (length-drop n out ∙ ap (λ (l : ℕ). l - n) (W .long) ∙ sym (length-replicate (64 - n) 0))
             (λ k l. getD-drop n out k 0 ∙ W .unused (n + k) (omega arith) ∙ sym (zeros-at (64 - n) k))
 
-    module _ (costs : List ℕ) (long : length costs ≡ 32768) (full : Filled net costs 0) (more : i < n) where
+    module _ (few : moves < 64) (costs : List ℕ) (full : Filled net moves costs 0) (more : i < n) where
       pub walk-ready : Ready sizes (i * 8) prev moved base costs (i * 512) (getD counts i 0) cells m
       walk-ready =
-          ready-at counts sizes moved n cells T costs 0 long full i m prev base more (W .left) (omega arith) (W .low) (W .based)
+          ready-at counts sizes moved n cells T moves costs 0 few full i m prev base more (W .left) (omega arith) (W .low) (W .based)
 
       module _ (a : ℕ) (e : a ≡ placeOf (getD counts i 0) (throughAt sizes (i * 8) prev moved base costs (i * 512) cells m)) where
         chosen : a ≡ choice net (n - (i + 1)) i m (coming sizes (i * 8) prev moved base)
         chosen =
             e
-            ∙ place-here counts sizes moved n cells costs 0 full i m prev moved base (coming sizes (i * 8) prev moved base)
+            ∙ place-here counts sizes moved n cells moves costs 0 full i m prev base (coming sizes (i * 8) prev moved base)
             more
             (W .left)
             (omega arith)

@@ -14,7 +14,7 @@ pub record Ready (sizes : List ℕ) (at prev : ℕ) (moved : List ℕ) (from : �
   pub cells-in : cells ≤ 2 ^ 40
   pub m-in : m < 64
   pub ones : (k : ℕ) → getD moved k 0 ≤ 1
-  pub low : (k : ℕ) → k < 512 → getD costs (rest + k) 0 ≤ far
+  pub low : (b left : ℕ) → b < 8 → left ≤ m → getD costs (rest + (b * 64 + left)) 0 ≤ far
 
 -- coming from a place of padded size prev, with the moves from entry `from` on, to the sizes from entry `at` on
 abbrev pub coming : List ℕ → ℕ → ℕ → List ℕ → ℕ → Coming

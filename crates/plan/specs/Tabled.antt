@@ -17,13 +17,14 @@ tabled counts sizes moved n cells =
       cells = cells;
     }
 
--- the entry (i * 8 + a) * 64 + m: the least cost of the stations after i, from place a of station i, with m moves left
-unfoldable pub entryOf : Net → ℕ → ℕ
-entryOf N t = valueOf N (N .stations - (t / 512 + 1)) (t / 512 + 1) (t % 64) (after N (t / 512) (t / 64 % 8))
+-- the entry of row i * 8 + a with m moves left: the least cost of the stations after i, from place a of station i
+unfoldable pub entryOf : Net → ℕ → ℕ → ℕ
+entryOf N row m = valueOf N (N .stations - (row / 8 + 1)) (row / 8 + 1) m (after N (row / 8) (row % 8))
 
--- the table is right from entry t on
-abbrev pub Filled : Net → List ℕ → ℕ → Type 0
-Filled N costs t = (k : ℕ) → t ≤ k → k < N .stations * 512 → getD costs k 0 ≡ entryOf N k
+-- the table, entries at row * 64 + m, is right from a row on, for every number of moves left up to the limit
+pub record Filled (N : Net) (moves : ℕ) (costs : List ℕ) (row : ℕ) : Type 0 where
+  pub long : length costs ≡ 32768
+  pub right : (k m : ℕ) → row ≤ k → k < N .stations * 8 → m ≤ moves → getD costs (k * 64 + m) 0 ≡ entryOf N k m
 
 -- what the planner asks of its tables; no station follows the last row's, so its moves are 0: the row that leads to the first station
 pub record Usable (counts sizes moved : List ℕ) (n cells : ℕ) : Type 0 where

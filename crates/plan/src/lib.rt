@@ -113,31 +113,62 @@ fn choose(
     Choice { place, cost }
 }
 
-// Fills the table of least costs from the last entry to the first. The last station's entries are 0.
-fn fill(counts: &[usize], sizes: &[u64], moved: &[usize], n: usize, cells: u64, costs: &mut [u64])
+// Fills one row of the table of least costs: the entries of one place, for every number of moves left up to the limit.
+fn fill_row(
+    counts: &[usize],
+    sizes: &[u64],
+    moved: &[usize],
+    n: usize,
+    cells: u64,
+    moves: usize,
+    row: usize,
+    costs: &mut [u64],
+)
     requires { ⌜ Usable (now counts) (now sizes) (now moved) n cells ⌝ }
-    requires { ⌜ (length (now costs) ≡ 32768) × ((k : ℕ) → getD (now costs) k 0 ≡ 0) ⌝ }
-    ensures { λ _. ⌜ Filled (tabled (now (counts .entry)) (now (sizes .entry)) (now (moved .entry)) n cells) (now (costs .exit)) 0 ⌝ }
+    requires { ⌜ (moves < 64) × (row < (n - 1) * 8) ⌝ }
+    requires { ⌜ Filled (tabled (now counts) (now sizes) (now moved) n cells) moves (now costs) (row + 1) ⌝ }
+    ensures { λ _. ⌜ Filled (tabled (now (counts .entry)) (now (sizes .entry)) (now (moved .entry)) n cells) moves (now (costs .exit)) row ⌝ }
 {
-    let mut t = (n - 1) * 512;
-    while 0 < t {
-        t -= 1;
-        let i = t / 512 + 1;
-        let count = counts[i];
-        let prev = sizes[t / 64];
+    let i = row / 8 + 1;
+    let count = counts[i];
+    let prev = sizes[row];
+    let mut m: usize = 0;
+    while m <= moves {
         let c = choose(
             sizes,
             i * 8,
             prev,
             moved,
-            t / 64 * 8,
+            row * 8,
             costs,
             i * 512,
             count,
             cells,
-            t % 64,
+            m,
         );
-        costs[t] = c.cost;
+        costs[row * 64 + m] = c.cost;
+        m += 1;
+    }
+}
+
+// Fills the table of least costs from the last row to the first. The last station's entries are 0.
+fn fill(
+    counts: &[usize],
+    sizes: &[u64],
+    moved: &[usize],
+    n: usize,
+    cells: u64,
+    moves: usize,
+    costs: &mut [u64],
+)
+    requires { ⌜ Usable (now counts) (now sizes) (now moved) n cells ⌝ }
+    requires { ⌜ (moves < 64) × (length (now costs) ≡ 32768) × ((k : ℕ) → getD (now costs) k 0 ≡ 0) ⌝ }
+    ensures { λ _. ⌜ Filled (tabled (now (counts .entry)) (now (sizes .entry)) (now (moved .entry)) n cells) moves (now (costs .exit)) 0 ⌝ }
+{
+    let mut row = (n - 1) * 8;
+    while 0 < row {
+        row -= 1;
+        fill_row(counts, sizes, moved, n, cells, moves, row, costs);
     }
 }
 
@@ -160,7 +191,7 @@ fn walk(
 ) -> [usize; 64]
     requires { ⌜ Usable (now counts) (now sizes) (now moved) n cells ⌝ }
     requires { ⌜ moves < 64 ⌝ }
-    requires { ⌜ (length (now costs) ≡ 32768) × Filled (tabled (now counts) (now sizes) (now moved) n cells) (now costs) 0 ⌝ }
+    requires { ⌜ Filled (tabled (now counts) (now sizes) (now moved) n cells) moves (now costs) 0 ⌝ }
     ensures { λ r. ⌜ r ≡ spread n (bestPlan (tabled (now (counts .entry)) (now (sizes .entry)) (now (moved .entry)) n cells) moves) ⌝ }
 {
     let mut out = [0usize; 64];
@@ -204,7 +235,7 @@ fn plan_in(
     requires { ⌜ (moves < 64) × (length (now costs) ≡ 32768) × ((k : ℕ) → getD (now costs) k 0 ≡ 0) ⌝ }
     ensures { λ r. ⌜ r ≡ planAnswer (tabled (now (counts .entry)) (now (sizes .entry)) (now (moved .entry)) n cells) moves ⌝ }
 {
-    fill(counts, sizes, moved, n, cells, costs);
+    fill(counts, sizes, moved, n, cells, moves, costs);
     let count = counts[0];
     let c = choose(sizes, 0, 0, moved, 4032, costs, 0, count, cells, moves);
     let total = c.cost;

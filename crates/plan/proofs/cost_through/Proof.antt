@@ -91,7 +91,7 @@ add-result-2 c =
       paid c,
       s .pre .0 .cells-in,
       c .before .before .before .before .if1 .left,
-      s .pre .0 .low (s .args .b * 64 + (s .args .m - Moves c)) (omega (arith, s .pre .0 .m-in, s .pre .0 .count-in, s .pre .1)),
+      s .pre .0 .low (s .args .b) (s .args .m - Moves c) (omega (arith, s .pre .0 .count-in, s .pre .1)) (omega arith),
     )
 
 returns-3 : tie.Need-returns-3

@@ -1,15 +1,9 @@
 -- `plan::plan_in` meets its contract. Assumes nothing.
 use borrow.Author.Needs.{needs}
-use mathlib.Core.Path.{_≡_, _∙_}
 use native.Mathlib.Omega.{arith}
-use lib.ListN.{length}
 use Rattle.plan.proofs.Answers.{first-ready, answer-none, answer-some}
 use Rattle.plan.proofs.plan_in.Statement.{statement}
 use Rattle.plan.proofs.plan_in.Tie as tie
-
--- the table is as long as it came
-long : (g : tie.After-fill) → length (g .fill .last .1 .1 .1 .1 .1 .0) ≡ 32768
-long g = g .fill .kept .1 .1 .1 .1 .1 .0 ∙ g .before .before .before .before .before .before .pre .1 .1
 
 fill-requires : tie.Need-fill-requires
 fill-requires c κs = search needs
@@ -21,7 +15,7 @@ choose-requires : tie.Need-choose-requires
 choose-requires c κs =
     let g : tie.After-fill = c .before .before .before .before in
     let s = g .before .before .before .before .before .before in
-    first-ready _ _ _ _ _ (s .pre .0) _ (s .pre .1 .0) (g .fill .last .1 .1 .1 .1 .1 .0) (long g) (g .fill .ensures)
+    first-ready _ _ _ _ _ (s .pre .0) _ (s .pre .1 .0) _ (g .fill .ensures)
 
 same-length : tie.Need-same-length
 same-length c = search needs
@@ -30,13 +24,13 @@ returns : tie.Need-returns
 returns c =
     let g : tie.After-fill = c .before .before .before .before .before .before in
     let s = g .before .before .before .before .before .before in
-    answer-none _ _ _ _ _ (s .pre .0) _ (s .pre .1 .0) (g .fill .last .1 .1 .1 .1 .1 .0) (long g) (g .fill .ensures) _ (c .before .choose .ensures .1 .0) (omega arith)
+    answer-none _ _ _ _ _ (s .pre .0) _ (s .pre .1 .0) _ (g .fill .ensures) _ (c .before .choose .ensures .1 .0) (omega arith)
 
 walk-requires : tie.Need-walk-requires
 walk-requires c κs =
     let g : tie.After-fill = c .before .before .before .before .before .before .before in
     let s = g .before .before .before .before .before .before in
-    (s .pre .0, (s .pre .1 .0, (long g, g .fill .ensures)))
+    (s .pre .0, (s .pre .1 .0, g .fill .ensures))
 
 same-length-2 : tie.Need-same-length-2
 same-length-2 c = search needs
@@ -45,7 +39,7 @@ returns-2 : tie.Need-returns-2
 returns-2 c =
     let g : tie.After-fill = c .before .before .before .before .before .before .before .before in
     let s = g .before .before .before .before .before .before in
-    answer-some _ _ _ _ _ (s .pre .0) _ (s .pre .1 .0) (g .fill .last .1 .1 .1 .1 .1 .0) (long g) (g .fill .ensures) _ (c .before .before .before .choose .ensures .1 .0) _ (omega arith) (c .walk .ensures)
+    answer-some _ _ _ _ _ (s .pre .0) _ (s .pre .1 .0) _ (g .fill .ensures) _ (c .before .before .before .choose .ensures .1 .0) _ (omega arith) (c .walk .ensures)
 
 pub plan-in-spec : {M : Type 1} → statement M
 plan-in-spec =

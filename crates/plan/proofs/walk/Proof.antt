@@ -16,7 +16,7 @@ abbrev μ-loop : tie.MeasureT-loop
 loop-holds : tie.Need-loop-holds Inv-loop μ-loop
 loop-holds c =
     let s = c .before .before .before .before in
-    walk-start _ _ _ _ _ (s .pre .0) _ (s .pre .1 .0)
+    walk-start _ _ _ _ _ (s .pre .0) _
 
 mul-choose : tie.Need-mul-choose Inv-loop μ-loop
 mul-choose c = search needs
@@ -33,7 +33,7 @@ shared-slice-read-choose c = search needs
 choose-requires : tie.Need-choose-requires Inv-loop μ-loop
 choose-requires c κs =
     let s = c .before .before .before .before .before .before .before in
-    walk-ready _ _ _ _ _ (s .pre .0) _ _ _ _ _ _ (c .before .before .loop .inv) (s .args .costs .now) (s .pre .1 .1 .0) (s .pre .1 .1 .1) (omega arith)
+    walk-ready _ _ _ _ _ (s .pre .0) _ _ _ _ _ _ (c .before .before .loop .inv) (s .pre .1 .0) (s .args .costs .now) (s .pre .1 .1) (omega arith)
 
 add-less : tie.Need-add-less Inv-loop μ-loop
 add-less c = search needs
@@ -84,7 +84,7 @@ loop-again : tie.Need-loop-again Inv-loop μ-loop
 loop-again c =
     let s = c .before .before .before .before .before .before .before .before .before .before .before .before .before .before in
     let h = c .before .before .before .before .before .before .choose .ensures in
-    walk-step _ _ _ _ _ (s .pre .0) _ _ _ _ _ _ (c .before .before .before .before .before .before .before .before .before .loop .inv) (s .args .costs .now) (s .pre .1 .1 .0) (s .pre .1 .1 .1) (omega arith)
+    walk-step _ _ _ _ _ (s .pre .0) _ _ _ _ _ _ (c .before .before .before .before .before .before .before .before .before .loop .inv) (s .pre .1 .0) (s .args .costs .now) (s .pre .1 .1) (omega arith)
     _
     (h .0)
     _
