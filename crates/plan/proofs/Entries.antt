@@ -3,7 +3,7 @@ use Prim.Native.Nat.{ℕ, zero, suc, _+_, _*_, _-_, _/_, _%_, _^_, _≤_, _<_}
 use mathlib.Core.Path.{_≡_, refl, sym, ap, _∙_}
 use mathlib.Core.List.{List}
 use native.Mathlib.Omega.{arith}
-use lib.ListN.{length, getD}
+use lib.ListN.{getD}
 use Rattle.plan.specs.Net.{Net, Coming, after}
 use Rattle.plan.specs.Value.{far, leastOf, placeOf, through, valueOf, choice}
 use Rattle.plan.specs.Tabled.{tabled, entryOf, Filled, Usable}
