@@ -44,14 +44,14 @@ unfolding mulRange
 product-in (pos n) h = record { low = Le-mul n (h .low); high = Le-mul n (h .high) }
 product-in (negsuc n) h = record { low = Le-mul-neg n (h .high); high = Le-mul-neg n (h .low) }
 
-eqℤ-eq : (a b : ℤ) → T (eqℤ a b) → a ≡ b
+pub eqℤ-eq : (a b : ℤ) → T (eqℤ a b) → a ≡ b
 unfolding eqℤ
 eqℤ-eq (pos a) (pos b) h = ap pos (eqb→eq a b h)
 eqℤ-eq (pos a) (negsuc b) h = absurd h
 eqℤ-eq (negsuc a) (pos b) h = absurd h
 eqℤ-eq (negsuc a) (negsuc b) h = ap negsuc (eqb→eq a b h)
 
-same-quot : (g : ℕ) (x : ℤ) (r : Range) → 0 < g → LeIn x r → floorDiv (r .lo) g ≡ floorDiv (r .hi) g → floorDiv x g ≡ floorDiv (r .lo) g
+pub same-quot : (g : ℕ) (x : ℤ) (r : Range) → 0 < g → LeIn x r → floorDiv (r .lo) g ≡ floorDiv (r .hi) g → floorDiv x g ≡ floorDiv (r .lo) g
 same-quot g x r hg h e = Le-anti (Le-trans (Le-floor g hg (h .high)) (Le-eq (sym e))) (Le-floor g hg (h .low))
 
 pub op-in : (o : Op) (c : ℕ) {x : ℤ} {r : Range} → 0 < c → LeIn x r → LeIn (opOf o x c) (opRange o r c)

@@ -1,6 +1,6 @@
 -- Expressions: trees of variables, constants, sums, products, floordivs and mods, with their values and reckoned ranges. Assumes nothing.
 use mathlib.Core.Bool.{Bool, false, cond, _&&_}
-use Prim.Native.Nat.{ℕ, _-_}
+use Prim.Native.Nat.{ℕ, suc, _+_, _-_}
 use lib.Dec.{leb, eqb}
 use lib.IntN.{ℤ, pos, negsuc, natAbs, _+ℤ_, _*ℤ_}
 use lib.Signed.{_≤ℤ_}
@@ -30,6 +30,14 @@ pub data NodeOf (x : Expr) : Expr → Type 0 where
   right : {a b : Expr} → NodeOf x b → NodeOf x (Expr.add a b)
   times : {z : ℤ} {a : Expr} → NodeOf x a → NodeOf x (Expr.mul z a)
   under : {o : Op} {a : Expr} {c : ℕ} → NodeOf x a → NodeOf x (Expr.op o a c)
+
+-- how many nodes a tree has
+unfoldable pub nodeCount : Expr → ℕ
+nodeCount (Expr.var k n) = 1
+nodeCount (Expr.const z) = 1
+nodeCount (Expr.add a b) = suc (nodeCount a + nodeCount b)
+nodeCount (Expr.mul z a) = suc (nodeCount a)
+nodeCount (Expr.op o a c) = suc (nodeCount a)
 
 -- ---- values
 

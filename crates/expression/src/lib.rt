@@ -7,6 +7,7 @@ mod values;
 pub use nodes::MAX_NODES;
 pub use nodes::MAX_VARIABLES;
 pub use nodes::is_small;
+pub use nodes::node_of;
 pub use reckoning::range_of;
 pub use trees::is_tree;
 pub use values::value_of;

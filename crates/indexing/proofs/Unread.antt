@@ -43,7 +43,7 @@ nodes-same dims ranges ks ks' vs vs' i (suc n) h =
     let a = h i (omega arith) in
     rw (a .0, a .1) (ap (λ l. nodeOf dims ranges (getD ks' i 0) (getD vs' i (pos 0)) ∷ l) (nodes-same dims ranges ks ks' vs vs' (i + 1) n (λ p l. h p (omega arith))))
 
-front-same : (f g : ℕ → ℤ) (i n : ℕ) → ((k : ℕ) → k < i → f k ≡ g k) → front f i n ≡ front g i n
+pub front-same : (f g : ℕ → ℤ) (i n : ℕ) → ((k : ℕ) → k < i → f k ≡ g k) → front f i n ≡ front g i n
 unfolding front
 front-same f g i zero h = refl
 front-same f g zero (suc n) h = ap (λ (l : List ℤ). pos 0 ∷ l) (front-same f g zero n h)

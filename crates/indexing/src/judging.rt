@@ -187,7 +187,7 @@ pub fn good_ranges(m: IndexingMap) -> bool
 }
 
 // The first rule that the map breaks, or none.
-fn judged(m: IndexingMap) -> Verdict
+pub fn judged(m: IndexingMap) -> Verdict
     ensures { λ r. ⌜ r ≡ judge (mapRules m) ⌝ }
 {
     if !good_parts(m) {

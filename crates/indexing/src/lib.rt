@@ -1,4 +1,5 @@
 // Indexing maps: the record, judging it, the reckoned ranges of its results and their values at a point.
+pub mod inner;
 mod judging;
 mod points;
 mod runs;
