@@ -1,0 +1,20 @@
+-- The laws that the proofs and other crates cite, the theorems and the samples.
+pub mod Rules
+pub mod AtomOrder
+pub mod Divisors
+pub mod Cases
+pub mod Atoms
+pub mod Merging
+pub mod Ending
+pub mod Again
+pub mod SumValue
+pub mod Value
+pub mod Size
+pub mod TreeRange
+pub mod Numbers
+pub mod Judged
+pub mod WorkingAgain
+pub mod FoldedTree
+pub mod Map
+pub mod Theorems
+pub mod Samples
