@@ -1,0 +1,10 @@
+pub mod Order
+pub mod Link
+pub mod Laid
+pub mod Post
+pub mod Sat
+pub mod Laidorder
+pub mod Merge
+pub mod Part
+pub mod Plus
+pub mod Room
