@@ -1,0 +1,4 @@
+-- The definitions that the contracts cite.
+pub mod Postfix
+pub mod Written
+pub mod Encode
