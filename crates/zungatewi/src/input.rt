@@ -1,10 +1,9 @@
 // Standard input: pieces of it, and the lines in them.
 use crate::request::respond;
-use crate::token::byte_at;
-use crate::write;
-use crate::write::error;
-use crate::write::flush;
 use libc::STDIN_FILENO;
+use reading::byte_at;
+use writing::error;
+use writing::flush;
 
 // The longest line that is read as a request. The line's buffer has a place more.
 const LONGEST: usize = 65535;
@@ -66,7 +65,7 @@ fn end_line(text: &[u8], line: Line, out: &mut [u8], at: usize) -> usize {
         return at;
     }
     let next = answer_line(text, length, out, at);
-    write::text(out, next, b"\n\n")
+    writing::text(out, next, b"\n\n")
 }
 
 // One byte of the input: it is kept, or it ends the line.

@@ -1,14 +1,6 @@
 // The program: answers the requests on standard input, one to a line, by the library's calls.
-mod answer;
-mod arguments;
-mod buffers;
-mod grid;
 mod input;
-mod read;
 mod request;
-mod stations;
-mod token;
-mod write;
 
 fn main() {
     let mut line = [0u8; 65536];

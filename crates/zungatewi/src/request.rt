@@ -1,127 +1,32 @@
-// The requests by name, and the answer to a line.
-use crate::answer;
-use crate::arguments::Arguments;
-use crate::arguments::read_arguments;
-use crate::buffers;
-use crate::grid::grid;
-use crate::stations::answer_route;
-use crate::token::Cursor;
-use crate::token::finish;
-use crate::token::part;
-use crate::token::read_word;
-use crate::token::skip;
-use crate::write::error;
+// The answer to a line, by the name that it starts with.
 use check::same;
+use layout_requests::answer_named;
+use map_requests::answer_eval;
+use map_requests::answer_fold;
+use map_requests::answer_range;
+use reading::Cursor;
+use reading::part;
+use reading::read_word;
+use route_requests::answer_route;
 
-pub enum Request {
-    Padded,
-    Offset,
-    Cell,
-    Card,
-    Fit,
-    Grid,
-    Route,
-    Number,
-    Point,
-    Pack,
-    Unpack,
-    Store,
-    Load,
-    Unknown,
-}
-
-fn named(name: &[u8]) -> Request {
-    if same(name, b"padded") {
-        return Request::Padded;
-    }
-    if same(name, b"offset") {
-        return Request::Offset;
-    }
-    if same(name, b"cell") {
-        return Request::Cell;
-    }
-    if same(name, b"card") {
-        return Request::Card;
-    }
-    if same(name, b"fit") {
-        return Request::Fit;
-    }
-    if same(name, b"grid") {
-        return Request::Grid;
-    }
-    if same(name, b"route") {
-        return Request::Route;
-    }
-    named_elements(name)
-}
-
-// The requests on elements: their numbers and points, and buffers of them.
-fn named_elements(name: &[u8]) -> Request {
-    if same(name, b"number") {
-        return Request::Number;
-    }
-    if same(name, b"point") {
-        return Request::Point;
-    }
-    if same(name, b"pack") {
-        return Request::Pack;
-    }
-    if same(name, b"unpack") {
-        return Request::Unpack;
-    }
-    if same(name, b"store") {
-        return Request::Store;
-    }
-    if same(name, b"load") {
-        return Request::Load;
-    }
-    Request::Unknown
-}
-
-// The answer to a line.
 pub fn respond(line: &[u8], out: &mut [u8], at: usize) -> usize {
     let name = read_word(line, 0);
-    let request = named(part(line, name.start, name.end));
-    if let Request::Unknown = request {
-        return error(out, at, name.start);
-    }
+    let word = part(line, name.start, name.end);
     let from = Cursor {
         at: name.end,
         ok: true,
     };
-    if let Request::Route = request {
+    if same(word, b"route") {
         return answer_route(line, from, out, at);
     }
-    let a = read_arguments(line, from, request);
-    let end = finish(line, a.next);
-    if !end.ok {
-        return error(out, at, end.at);
+    if same(word, b"eval") {
+        return answer_eval(line, from, out, at);
     }
-    answer_to(request, a, skip(line, name.end), out, at)
-}
-
-// The answer to a request whose arguments start at a place.
-fn answer_to(request: Request, a: Arguments, start: usize, out: &mut [u8], at: usize) -> usize {
-    match request {
-        Request::Padded => answer::padded(a, out, at),
-        Request::Offset => answer::offset(a, out, at),
-        Request::Cell => answer::cell(a, out, at),
-        Request::Card => answer::card(a, out, at),
-        Request::Fit => answer::fit(a, out, at),
-        Request::Number => answer::number(a, out, at),
-        Request::Point => answer::point(a, out, at),
-        Request::Grid => grid(a, start, out, at),
-        _ => answer_on_buffers(request, a, out, at),
+    if same(word, b"range") {
+        return answer_range(line, from, out, at);
     }
-}
-
-// The answer to a request on buffers.
-fn answer_on_buffers(request: Request, a: Arguments, out: &mut [u8], at: usize) -> usize {
-    match request {
-        Request::Pack => buffers::packed(a, out, at),
-        Request::Unpack => buffers::unpacked(a, out, at),
-        Request::Store => buffers::stored(a, out, at),
-        Request::Load => buffers::loaded(a, out, at),
-        _ => at,
+    if same(word, b"fold") {
+        return answer_fold(line, from, out, at);
     }
+    answer_named(line, name, out, at)
 }

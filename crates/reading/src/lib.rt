@@ -1,0 +1,32 @@
+// Reading the line of a request: its tokens, and the pieces that they make up. A line is any bytes.
+mod pieces;
+mod token;
+
+pub use pieces::LayoutRead;
+pub use pieces::List;
+pub use pieces::ShapeRead;
+pub use pieces::Unsigned;
+pub use pieces::read_bounded;
+pub use pieces::read_layout;
+pub use pieces::read_point;
+pub use pieces::read_shape;
+pub use pieces::read_unsigned;
+pub use token::Cursor;
+pub use token::Number;
+pub use token::Word;
+pub use token::byte_at;
+pub use token::digits_end;
+pub use token::expect;
+pub use token::expect_word;
+pub use token::failed;
+pub use token::finish;
+pub use token::has_more;
+pub use token::is_digit;
+pub use token::is_next;
+pub use token::is_word;
+pub use token::one_more;
+pub use token::part;
+pub use token::read_number;
+pub use token::read_word;
+pub use token::skip;
+pub use token::value_of;
