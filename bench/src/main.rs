@@ -5,6 +5,7 @@ mod stations;
 use std::hint::black_box;
 use std::time::Instant;
 
+#[link(name = "route_bench", kind = "static")]
 extern "C" {
     fn route_total(seed: u64, moves: u64) -> u64;
     fn stations_only(seed: u64) -> u64;
