@@ -72,7 +72,7 @@ use std::process::ExitCode;
 use random_kinds::{random_lines, Kind};
 
 const USAGE: &str =
-    "usage: oracle answer | random SEED N [layout | route | map] | vectors [DIR [--maps]] | brute";
+    "usage: oracle answer | random SEED N [layout | route | map] | vectors [DIR] | brute";
 
 /// Where `vectors` writes when no directory is given.
 const VECTORS_DIRECTORY: &str = "crates/zungatewi";
@@ -87,9 +87,8 @@ fn main() -> ExitCode {
             Some(kind) => random(seed, count, Some(kind)),
             None => return usage(),
         },
-        ["vectors"] => vectors::write_vectors(VECTORS_DIRECTORY, false),
-        ["vectors", directory] => vectors::write_vectors(directory, false),
-        ["vectors", directory, "--maps"] => vectors::write_vectors(directory, true),
+        ["vectors"] => vectors::write_vectors(VECTORS_DIRECTORY),
+        ["vectors", directory] => vectors::write_vectors(directory),
         ["brute"] => return brute(),
         _ => return usage(),
     };

@@ -1,4 +1,4 @@
-//! Random request lines by kind: layouts, routes, maps, or a mix of the kinds that the program answers.
+//! Random request lines by kind: layouts, routes, maps, or a mix of them.
 
 use crate::random::Random;
 use crate::random_map_lines::random_map_line;
@@ -12,8 +12,15 @@ pub enum Kind {
     Map,
 }
 
-/// The kinds of a mix; each stands as often as its share is. The program does not answer maps yet.
-const MIX: [Kind; 4] = [Kind::Layout, Kind::Layout, Kind::Layout, Kind::Route];
+/// The kinds of a mix; each stands as often as its share is.
+const MIX: [Kind; 6] = [
+    Kind::Layout,
+    Kind::Layout,
+    Kind::Layout,
+    Kind::Route,
+    Kind::Map,
+    Kind::Map,
+];
 
 impl Kind {
     pub fn named(name: &str) -> Option<Kind> {

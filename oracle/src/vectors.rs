@@ -37,23 +37,21 @@ const RANDOM_REQUESTS: u64 = 3000;
 const RANDOM_ROUTES: u64 = 2000;
 const RANDOM_MAPS: u64 = 4000;
 
-/// Writes both files into a directory, with maps or without.
-pub fn write_vectors(directory: &str, with_maps: bool) -> io::Result<()> {
+/// Writes both files into a directory.
+pub fn write_vectors(directory: &str) -> io::Result<()> {
     let directory = Path::new(directory);
-    let requests = requests(with_maps);
+    let requests = requests();
     fs::create_dir_all(directory)?;
     fs::write(directory.join("stdin"), &requests)?;
     fs::write(directory.join("stdout"), answer_input(&requests))
 }
 
 /// The bytes of `stdin`. Its last line ends with the input.
-fn requests(with_maps: bool) -> Vec<u8> {
+fn requests() -> Vec<u8> {
     let mut bytes = Vec::new();
     layouts(&mut bytes);
     routes(&mut bytes);
-    if with_maps {
-        maps(&mut bytes);
-    }
+    maps(&mut bytes);
     bytes.extend(b"# a last line that ends at the end of the input\n");
     bytes.extend(b"offset [3,5] {1,0:T(2,2)} (2,3)");
     bytes
