@@ -7,5 +7,9 @@ pub mod Folded
 pub mod Points
 pub mod FoldAgain
 pub mod PastCounts
+pub mod Runs
+pub mod Results
+pub mod Constraints
+pub mod Assembled
 pub mod Theorems
 pub mod Samples

@@ -8,6 +8,8 @@ use lib.ListN.{length, getD, replicate}
 use Rattle.refusal.specs.Number.{Answer, answered, verdictAnswer}
 use Rattle.refusal.specs.Judge.{Rule, rule, judge}
 use Rattle.refusal.specs.declared.Refusal.the-variants.{Attribute, CountLimit, WorkingLimit}
+use Rattle.refusal.specs.declared.Verdict.{Verdict}
+use Rattle.refusal.specs.declared.Verdict.the-variants.{Done, Refused}
 use Rattle.expression.specs.Expression.{Kind, Expr, Range, span}
 use Rattle.expression.specs.Node.{maxNodes, maxPlaces}
 use Rattle.expression.specs.Decode.{Tree, none, tree}
@@ -107,6 +109,18 @@ foldedAnswer r =
       values = r .map ∷ [];
       places = verdictAnswer (r .verdict) .places;
     }
+
+-- the record that stands for a verdict and a map
+abbrev pub foldedWith : Verdict → IndexingMap → FoldedMap
+foldedWith Done m = record { verdict = Done; map = m }
+foldedWith (Refused r) m = record { verdict = Refused r; map = noMap }
+
+-- of an accepted map: 8 of the working, 7 of the result
+abbrev pub workRules : IndexingMap → List Rule
+workRules m = rule (smallFold m) WorkingLimit ∷ rule (fewNodes m) CountLimit ∷ []
+
+unfoldable pub acceptedFold : IndexingMap → FoldedMap
+acceptedFold m = foldedWith (judge (workRules m)) (foldedMap m)
 
 unfoldable pub foldAnswer : IndexingMap → Answer IndexingMap
 foldAnswer m = answered (noMap ∷ []) (judge (foldRules m)) (foldedMap m ∷ [])

@@ -1,9 +1,33 @@
-// Folding an indexing map: the public call.
+// Folding an indexing map: the public call, and the parts of it.
+mod parts;
+mod whole;
+
 use indexing::IndexingMap;
 use refusal::Verdict;
+pub use whole::fold_map;
 
 // The answer of fold_map: a map of zeros when refused.
 pub struct FoldedMap {
     pub verdict: Verdict,
     pub map: IndexingMap,
+}
+
+// How far the trees are folded and their nodes written: whether every sum formed keeps the limits, and the place past the last node.
+pub struct Progress {
+    pub small: bool,
+    pub at: usize,
+}
+
+// The same of constraints: also how many stay.
+pub struct Remaining {
+    pub small: bool,
+    pub at: usize,
+    pub count: usize,
+}
+
+// A constraint folded: whether every sum formed keeps the limits, whether it goes, and the place past its nodes.
+pub struct FoldedConstraint {
+    pub small: bool,
+    pub gone: bool,
+    pub at: usize,
 }

@@ -129,19 +129,6 @@ fn write_numbers(m: IndexingMap, numbers: &mut [i64]) {
     copy_numbers(&m.values, 0, numbers, 112, 256);
 }
 
-pub struct Answer {
-    pub verdict: Verdict,
-    pub map: IndexingMap,
-}
-
-// Stands in for fold::fold_map: the map is judged and handed back as it is.
-fn judged_only(m: IndexingMap) -> Answer {
-    Answer {
-        verdict: indexing::judge_map(m),
-        map: m,
-    }
-}
-
 // The number of a verdict, 0 for done.
 fn number_of(verdict: Verdict) -> u64 {
     match verdict {
@@ -171,7 +158,7 @@ pub extern "C" fn fold_rows(
     if !long_enough(counts_out.len(), numbers_out.len(), kinds_out.len()) {
         return SHORT;
     }
-    let answer = judged_only(read_map(counts, numbers, kinds));
+    let answer = fold::fold_map(read_map(counts, numbers, kinds));
     let verdict = answer.verdict;
     let m = answer.map;
     write_counts(m, counts_out);

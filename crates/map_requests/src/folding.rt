@@ -1,5 +1,6 @@
 // The request `fold`: the folded map.
 use crate::read_last;
+use fold::fold_map;
 use indexing::IndexingMap;
 use map_printing::print_map;
 use reading::Cursor;
@@ -7,19 +8,7 @@ use refusal::Verdict;
 use writing::error;
 use writing::refused;
 
-// A map that is not folded yet stands in for the folded one until the library folds.
-struct Folded {
-    verdict: Verdict,
-    map: IndexingMap,
-}
-
-fn fold_map(m: IndexingMap) -> Folded {
-    Folded {
-        verdict: indexing::judge_map(m),
-        map: m,
-    }
-}
-
+// The folded map of the library, or its refusal, printed.
 fn put_folded(m: IndexingMap, out: &mut [u8], at: usize) -> usize {
     let answer = fold_map(m);
     let verdict = answer.verdict;

@@ -1,0 +1,62 @@
+use borrow.Author.Needs.{needs}
+use mathlib.Core.Path.{sym, ap, _∙_}
+use Rattle.indexing.proofs.Formed.{accepted-of}
+use Rattle.fold.specs.FoldMap.{foldedAnswer}
+use Rattle.fold.proofs.Assembled.{folded-done, folded-refused}
+use Rattle.fold.proofs.whole.fold_map.Statement.{statement}
+use Rattle.fold.proofs.whole.fold_map.Tie as tie
+use Rattle.fold.proofs.whole.fold_map.Reads as reads
+use Rattle.fold.proofs.whole.fold_map.Lts as lts
+use Rattle.indexing.proofs.inner.judged.Reads as judged-reads
+use Rattle.fold.proofs.whole.fold_accepted.Reads as fold-accepted-reads
+use Rattle.fold.proofs.whole.refused.Reads as refused-reads
+
+-- src/whole.rt:139:11
+judged-requires : tie.Need-judged-requires
+judged-requires c κs = search needs
+
+-- src/whole.rt:141:13
+enum-told : tie.Need-enum-told
+enum-told c = search needs
+
+-- src/whole.rt:141:13
+fold-accepted-requires : tie.Need-fold-accepted-requires
+fold-accepted-requires c κs =
+    let j = c .before .before in
+    accepted-of (j .before .args .m) (sym (j .judged .ensures) ∙ c .enum-told .given .1)
+
+-- src/whole.rt:141:13
+returns : tie.Need-returns
+returns c =
+    let e = c .before in
+    let j = e .before .before in
+    let m = j .before .args .m in
+    ap foldedAnswer (c .fold-accepted .ensures) ∙ folded-done m (sym (j .judged .ensures) ∙ e .enum-told .given .1)
+
+-- src/whole.rt:143:26
+enum-known-r : tie.Need-enum-known-r
+enum-known-r c = search needs
+
+-- src/whole.rt:144:13
+refused-requires : tie.Need-refused-requires
+refused-requires c κs = search needs
+
+-- src/whole.rt:144:13
+returns-2 : tie.Need-returns-2
+returns-2 c =
+    let r = c .before .before in
+    let j = r .before .before in
+    let m = j .before .args .m in
+    ap foldedAnswer (c .refused .ensures) ∙ folded-refused m _ (sym (j .judged .ensures) ∙ r .r .given .1)
+
+pub fold-map-spec : {M : Type 1} → statement M
+fold-map-spec =
+    tie.close
+    (tie.spec
+    judged-requires
+    enum-told
+    fold-accepted-requires
+    returns
+    enum-known-r
+    refused-requires
+    returns-2)

@@ -1,0 +1,80 @@
+use borrow.Author.Needs.{needs, sfits-of}
+use mathlib.Core.Path.{_≡_, refl, _∙_}
+use Prim.Native.Nat.{ℕ, _-_, _<_, _≤_}
+use native.Mathlib.Omega.{arith}
+use lib.IntN.{pos}
+use lib.ListN.{length, getD, length-set}
+use mir.Facts.{toZ-ofZ}
+use Rattle.expression.specs.Node.{maxPlaces}
+use Rattle.encoding.specs.Encode.{boundsOf}
+use Rattle.fold.proofs.Assembled.{bounds-next, bounds-all}
+use Rattle.fold.proofs.whole.kept_bounds.Statement.{statement}
+use Rattle.fold.proofs.whole.kept_bounds.Tie as tie
+use Rattle.fold.proofs.whole.kept_bounds.Reads as reads
+use Rattle.fold.proofs.whole.kept_bounds.Lts as lts
+use Rattle.fold.proofs.whole.bound_at.Reads as bound-at-reads
+
+abbrev Inv-loop : tie.InvT-loop
+Inv-loop bounds dims ranges out₀ i₀ out i =
+    (i ≤ maxPlaces) × (length out ≡ maxPlaces) × ((k : ℕ) → k < i → getD out k (pos 0) ≡ getD (boundsOf dims ranges bounds) k (pos 0))
+
+abbrev μ-loop : tie.MeasureT-loop
+μ-loop bounds dims ranges out₀ i₀ out i = maxPlaces - i
+
+-- src/whole.rt:42:5
+loop-holds : tie.Need-loop-holds Inv-loop μ-loop
+loop-holds c = (omega arith, refl, λ k h. absurd (omega arith))
+
+-- src/whole.rt:43:18
+bound-at-requires : tie.Need-bound-at-requires Inv-loop μ-loop
+bound-at-requires c κs = (c .before .before .pre, c .loop-test .taken)
+
+-- src/whole.rt:43:9
+mul-out : tie.Need-mul-out Inv-loop μ-loop
+mul-out c = search needs
+
+-- src/whole.rt:43:9
+array-set-from-out : tie.Need-array-set-from-out Inv-loop μ-loop
+array-set-from-out c = search needs
+
+-- src/whole.rt:44:9
+add-i : tie.Need-add-i Inv-loop μ-loop
+add-i c = search needs
+
+-- src/whole.rt:42:5
+loop-less : tie.Need-loop-less Inv-loop μ-loop
+loop-less c = search needs
+
+-- src/whole.rt:42:5
+loop-again : tie.Need-loop-again Inv-loop μ-loop
+loop-again c =
+    let t = c .before in
+    let l = t .before in
+    let s = l .before in
+    rw (toZ-ofZ (sfits-of (c .bound-at .ok))) (
+      omega (arith, t .loop-test .taken),
+      length-set (l .loop .out) (l .loop .i) (c .bound-at .result) ∙ l .loop .inv .1,
+      bounds-next (s .args .dims) (s .args .ranges) (s .args .bounds .now) (l .loop .out) (c .bound-at .result) (l .loop .i) (l .loop .inv .1) (t .loop-test .taken) (l .loop .inv .2) (c .bound-at .ensures),
+    )
+
+-- src/whole.rt:36:1
+returns : tie.Need-returns Inv-loop μ-loop
+returns c =
+    let l = c .before in
+    let s = l .before in
+    bounds-all (s .args .dims) (s .args .ranges) (s .args .bounds .now) (l .loop .out) (l .loop .inv .1) (λ k h. l .loop .inv .2 k (omega (arith, c .loop-test .left, h)))
+
+pub kept-bounds-spec : {M : Type 1} → statement M
+kept-bounds-spec =
+    tie.close
+    (tie.spec
+    Inv-loop
+    μ-loop
+    loop-holds
+    bound-at-requires
+    mul-out
+    array-set-from-out
+    add-i
+    loop-less
+    loop-again
+    returns)

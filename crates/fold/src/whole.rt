@@ -1,0 +1,147 @@
+// A map folded: its bounds, its trees, and the record made of them.
+use super::FoldedMap;
+use super::parts;
+use indexing::IndexingMap;
+use refusal::Refusal;
+use refusal::Verdict;
+ghost use mathlib.Core.Path.{_≡_};
+ghost use Prim.Native.Nat.{_<_, _≤_};
+ghost use lib.IntN.{pos};
+ghost use lib.ListN.{length, getD};
+ghost use Rattle.refusal.specs.declared.Verdict.the-variants.{Refused};
+ghost use Rattle.expression.specs.Node.{maxVariables, maxPlaces};
+ghost use Rattle.indexing.specs.Ready.{Accepted};
+ghost use Rattle.encoding.specs.Encode.{boundsOf};
+ghost use Rattle.fold.specs.FoldMap.{noMap, foldedWith, acceptedFold, foldedAnswer, foldAnswer};
+ghost use Rattle.fold.specs.Ready.{Space, Bounded};
+
+// The bound at a place, below the counts; 0 past them.
+fn bound_at(bounds: &[i64], dims: usize, ranges: usize, place: usize) -> i64
+    requires { ⌜ Bounded (now bounds) dims ranges × (place < maxPlaces) ⌝ }
+    ensures { λ r. ⌜ r ≡ getD (boundsOf dims ranges (now (bounds .entry))) place (pos 0) ⌝ }
+{
+    if place < expression::MAX_VARIABLES {
+        if place < dims {
+            return bounds[place];
+        }
+        return 0;
+    }
+    if place - expression::MAX_VARIABLES < ranges {
+        return bounds[place];
+    }
+    0
+}
+
+// The bounds below the counts, and 0 past them.
+fn kept_bounds(bounds: &[i64], dims: usize, ranges: usize) -> [i64; 24]
+    requires { ⌜ Bounded (now bounds) dims ranges ⌝ }
+    ensures { λ r. ⌜ r ≡ boundsOf dims ranges (now (bounds .entry)) ⌝ }
+{
+    let mut out = [0i64; 24];
+    let mut i: usize = 0;
+    while i < 24 {
+        out[i] = bound_at(bounds, dims, ranges, i);
+        i += 1;
+    }
+    out
+}
+
+// No map, with its refusal.
+fn refused(refusal: Refusal) -> FoldedMap
+    ensures { λ r. ⌜ r ≡ foldedWith (Refused refusal) noMap ⌝ }
+{
+    FoldedMap {
+        verdict: Verdict::Refused(refusal),
+        map: IndexingMap {
+            dims: 0,
+            ranges: 0,
+            lower: [0i64; 24],
+            upper: [0i64; 24],
+            results: 0,
+            result_nodes: [0usize; 8],
+            constraints: 0,
+            constraint_nodes: [0usize; 32],
+            constraint_lower: [0i64; 32],
+            constraint_upper: [0i64; 32],
+            kinds: [0u8; 256],
+            values: [0i64; 256],
+        },
+    }
+}
+
+// An accepted map folded, with room for the words of its sums: refused with 8 or 7.
+fn fold_in(m: IndexingMap, words: &mut [i64], scratch: &mut [i64]) -> FoldedMap
+    requires { ⌜ Accepted m × Space (now words) (now scratch) ⌝ }
+    ensures { λ r. ⌜ r ≡ acceptedFold m ⌝ }
+{
+    let mut counts = [0usize; 8];
+    let mut kinds = [0u8; 256];
+    let mut values = [0i64; 256];
+    let p = parts::fold_results(m, words, scratch, &mut counts, &mut kinds, &mut values);
+    let small = p.small;
+    if !small {
+        return refused(Refusal::WorkingLimit);
+    }
+    let mut nodes = [0usize; 32];
+    let mut lower = [0i64; 32];
+    let mut upper = [0i64; 32];
+    let q = parts::fold_constraints(
+        m,
+        words,
+        scratch,
+        &mut nodes,
+        &mut lower,
+        &mut upper,
+        &mut kinds,
+        &mut values,
+        p.at,
+    );
+    let all = q.small;
+    if !all {
+        return refused(Refusal::WorkingLimit);
+    }
+    if expression::MAX_NODES < q.at {
+        return refused(Refusal::CountLimit);
+    }
+    FoldedMap {
+        verdict: Verdict::Done,
+        map: IndexingMap {
+            dims: m.dims,
+            ranges: m.ranges,
+            lower: kept_bounds(&m.lower, m.dims, m.ranges),
+            upper: kept_bounds(&m.upper, m.dims, m.ranges),
+            results: m.results,
+            result_nodes: counts,
+            constraints: q.count,
+            constraint_nodes: nodes,
+            constraint_lower: lower,
+            constraint_upper: upper,
+            kinds,
+            values,
+        },
+    }
+}
+
+// An accepted map folded.
+fn fold_accepted(m: IndexingMap) -> FoldedMap
+    requires { ⌜ Accepted m ⌝ }
+    ensures { λ r. ⌜ r ≡ acceptedFold m ⌝ }
+{
+    let mut words = [0i64; 23296];
+    let mut scratch = [0i64; 1800];
+    fold_in(m, &mut words, &mut scratch)
+}
+
+// A map folded: refused with 2, 7 or 8 of the map given, 8 of the working or 7 of the result.
+pub fn fold_map(m: IndexingMap) -> FoldedMap
+    ensures { λ r. ⌜ foldedAnswer r ≡ foldAnswer m ⌝ }
+{
+    match indexing::inner::judged(m) {
+        Verdict::Done => {
+            return fold_accepted(m);
+        }
+        Verdict::Refused(r) => {
+            return refused(r);
+        }
+    }
+}
