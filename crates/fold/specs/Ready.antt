@@ -7,7 +7,7 @@ use lib.IntN.{ℤ, pos}
 use lib.ListN.{length, take, drop, set, replicate}
 use Rattle.expression.specs.Expression.{Expr, nodeCount}
 use Rattle.expression.specs.Node.{maxVariables, maxPlaces, maxNodes}
-use Rattle.indexing.specs.Map.{maxResults, maxConstraints}
+use Rattle.indexing.specs.Map.{maxResults, maxConstraints, startOf, runs, countOf}
 use Rattle.indexing.specs.declared.IndexingMap.{IndexingMap}
 use Rattle.folding.specs.Sum.{Sum, termCount, sumRange}
 use Rattle.folding.specs.Fold.{foldSum}
@@ -24,17 +24,25 @@ use Rattle.fold.specs.declared.Progress.{Progress}
 use Rattle.fold.specs.declared.Remaining.{Remaining}
 use Rattle.fold.specs.declared.FoldedConstraint.{FoldedConstraint}
 
--- words for the sums of a tree of the most nodes, and of scratch
-abbrev pub wordRoom : ℕ
-wordRoom = 91 * maxNodes
+-- the nodes of a map, all its trees together
+abbrev pub mapNodes : IndexingMap → ℕ
+mapNodes m = startOf (countOf m) (runs m)
 
-abbrev pub scratchWords : ℕ
-scratchWords = 7 * maxNodes + 8
+-- words for the sums of a tree with so many nodes, and of scratch
+abbrev pub wordRoom : ℕ → ℕ
+wordRoom n = 91 * n
 
-pub record Space (words scratch : List ℤ) : Type 0 where
-  pub long-words : wordRoom ≤ length words
+abbrev pub scratchRoom : ℕ → ℕ
+scratchRoom n = 7 * n + 8
+
+-- the most nodes of a map that is folded in the smaller work space
+abbrev pub fewAtMost : ℕ
+fewAtMost = 64
+
+pub record Space (m : IndexingMap) (words scratch : List ℤ) : Type 0 where
+  pub long-words : wordRoom (mapNodes m) ≤ length words
   pub few-words : length words ≤ maxTerms
-  pub long-scratch : scratchWords ≤ length scratch
+  pub long-scratch : scratchRoom (mapNodes m) ≤ length scratch
   pub few-scratch : length scratch ≤ maxTerms
 
 -- the folded sum of run i stands at the front of the words, where folding it passes no limit

@@ -17,7 +17,7 @@ ghost use Rattle.fold.specs.Ready.{Space, FoldsRun, WritesRun, FoldsResu
 
 // The folded sum of run i, written to the front of the words.
 fn run_sum(m: IndexingMap, i: usize, words: &mut [i64], scratch: &mut [i64]) -> TreeSum
-    requires { ⌜ Accepted m × (i < runs m) × Space (now words) (now scratch) ⌝ }
+    requires { ⌜ Accepted m × (i < runs m) × Space m (now words) (now scratch) ⌝ }
     ensures { λ r. ⌜ FoldsRun m i (now (words .exit)) r ⌝ }
 {
     let dims = m.dims;
@@ -62,7 +62,7 @@ fn fold_run(
     values: &mut [i64],
     at: usize,
 ) -> Progress
-    requires { ⌜ Accepted m × (i < runs m) × Space (now words) (now scratch) × Room (now kinds) (now values) at ⌝ }
+    requires { ⌜ Accepted m × (i < runs m) × Space m (now words) (now scratch) × Room (now kinds) (now values) at ⌝ }
     ensures { λ r. ⌜ WritesRun m i (now (kinds .entry)) (now (kinds .exit)) (now (values .entry)) (now (values .exit)) at r ⌝ }
 {
     let s = run_sum(m, i, words, scratch);
@@ -86,7 +86,7 @@ pub fn fold_results(
     kinds: &mut [u8],
     values: &mut [i64],
 ) -> Progress
-    requires { ⌜ Accepted m × Space (now words) (now scratch) × Zeros (now counts) (now kinds) (now values) ⌝ }
+    requires { ⌜ Accepted m × Space m (now words) (now scratch) × Zeros (now counts) (now kinds) (now values) ⌝ }
     ensures { λ r. ⌜ FoldsResults m (now (counts .exit)) (now (kinds .exit)) (now (values .exit)) r ⌝ }
 {
     let results = m.results;
@@ -134,7 +134,7 @@ fn fold_constraint(
     values: &mut [i64],
     at: usize,
 ) -> FoldedConstraint
-    requires { ⌜ Accepted m × (k < m .constraints) × Space (now words) (now scratch) × Room (now kinds) (now values) at ⌝ }
+    requires { ⌜ Accepted m × (k < m .constraints) × Space m (now words) (now scratch) × Room (now kinds) (now values) at ⌝ }
     ensures { λ r. ⌜ FoldsConstraint m k (now (kinds .entry)) (now (kinds .exit)) (now (values .entry)) (now (values .exit)) at r ⌝ }
 {
     let s = run_sum(m, m.results + k, words, scratch);
@@ -196,7 +196,7 @@ pub fn fold_constraints(
     values: &mut [i64],
     start: usize,
 ) -> Remaining
-    requires { ⌜ Accepted m × Space (now words) (now scratch) × ConstraintZeros (now counts) (now lower) (now upper) × Room (now kinds) (now values) start ⌝ }
+    requires { ⌜ Accepted m × Space m (now words) (now scratch) × ConstraintZeros (now counts) (now lower) (now upper) × Room (now kinds) (now values) start ⌝ }
     ensures { λ r. ⌜ FoldsConstraints m (now (counts .exit)) (now (lower .exit)) (now (upper .exit)) (now (kinds .entry)) (now (kinds .exit)) (now (values .entry)) (now (values .exit)) start r ⌝ }
 {
     let constraints = m.constraints;

@@ -2,6 +2,7 @@
 use super::FoldedMap;
 use super::parts;
 use indexing::IndexingMap;
+use indexing::Run;
 use refusal::Refusal;
 use refusal::Verdict;
 ghost use mathlib.Core.Path.{_≡_};
@@ -13,7 +14,10 @@ ghost use Rattle.expression.specs.Node.{maxVariables, maxPlaces};
 ghost use Rattle.indexing.specs.Ready.{Accepted};
 ghost use Rattle.encoding.specs.Encode.{boundsOf};
 ghost use Rattle.fold.specs.FoldMap.{noMap, foldedWith, acceptedFold, foldedAnswer, foldAnswer};
-ghost use Rattle.fold.specs.Ready.{Space, Bounded};
+ghost use Rattle.fold.specs.Ready.{Space, Bounded, mapNodes, fewAtMost};
+
+// The most nodes of a map that is folded in the smaller work space.
+const FEW: usize = 64;
 
 // The bound at a place, below the counts; 0 past them.
 fn bound_at(bounds: &[i64], dims: usize, ranges: usize, place: usize) -> i64
@@ -71,7 +75,7 @@ fn refused(refusal: Refusal) -> FoldedMap
 
 // An accepted map folded, with room for the words of its sums: refused with 8 or 7.
 fn fold_in(m: IndexingMap, words: &mut [i64], scratch: &mut [i64]) -> FoldedMap
-    requires { ⌜ Accepted m × Space (now words) (now scratch) ⌝ }
+    requires { ⌜ Accepted m × Space m (now words) (now scratch) ⌝ }
     ensures { λ r. ⌜ r ≡ acceptedFold m ⌝ }
 {
     let mut counts = [0usize; 8];
@@ -122,14 +126,54 @@ fn fold_in(m: IndexingMap, words: &mut [i64], scratch: &mut [i64]) -> FoldedMap
     }
 }
 
-// An accepted map folded.
-fn fold_accepted(m: IndexingMap) -> FoldedMap
+// The nodes of a map, all its trees together.
+fn node_total(m: IndexingMap) -> usize
+    requires { ⌜ Accepted m ⌝ }
+    ensures { λ r. ⌜ r ≡ mapNodes m ⌝ }
+{
+    let n = m.results + m.constraints;
+    if n == 0 {
+        return 0;
+    }
+    match indexing::inner::run_of(m, n - 1) {
+        Run::Held(from, count) => {
+            return from + count;
+        }
+        Run::Cut => {
+            return 0;
+        }
+    }
+}
+
+// An accepted map of few nodes folded.
+fn fold_few(m: IndexingMap) -> FoldedMap
+    requires { ⌜ Accepted m × (mapNodes m ≤ fewAtMost) ⌝ }
+    ensures { λ r. ⌜ r ≡ acceptedFold m ⌝ }
+{
+    let mut words = [0i64; 5824];
+    let mut scratch = [0i64; 456];
+    fold_in(m, &mut words, &mut scratch)
+}
+
+// An accepted map of any number of nodes folded.
+fn fold_many(m: IndexingMap) -> FoldedMap
     requires { ⌜ Accepted m ⌝ }
     ensures { λ r. ⌜ r ≡ acceptedFold m ⌝ }
 {
     let mut words = [0i64; 23296];
     let mut scratch = [0i64; 1800];
     fold_in(m, &mut words, &mut scratch)
+}
+
+// An accepted map folded, in work space by its number of nodes: clearing the larger one takes longer than folding a small map.
+fn fold_accepted(m: IndexingMap) -> FoldedMap
+    requires { ⌜ Accepted m ⌝ }
+    ensures { λ r. ⌜ r ≡ acceptedFold m ⌝ }
+{
+    if node_total(m) <= FEW {
+        return fold_few(m);
+    }
+    fold_many(m)
 }
 
 // A map folded: refused with 2, 7 or 8 of the map given, 8 of the working or 7 of the result.

@@ -36,9 +36,10 @@ from-small β r (Sum.const k) e = tt
 from-small β r (Sum.term c a t) e =
     let p = mulRange c (atomRange a β) in
     let q = addRange r p in
-    let front = and-left ((isSmall c && smallRange p) && smallRange q) (smallFrom β q t) e in
-    (leb-true (natAbs c) limit (and-left (isSmall c) (smallRange p) (and-left (isSmall c && smallRange p) (smallRange q) front)),
-     from-small β q t (and-right ((isSmall c && smallRange p) && smallRange q) (smallFrom β q t) e))
+    let front = and-left ((isSmall c && smallRange p) && smallRange q) (smallFrom β q t) e in (
+      leb-true (natAbs c) limit (and-left (isSmall c) (smallRange p) (and-left (isSmall c && smallRange p) (smallRange q) front)),
+      from-small β q t (and-right ((isSmall c && smallRange p) && smallRange q) (smallFrom β q t) e),
+    )
 
 pub small-terms : (β : Kind → ℕ → Range) (t : Sum) → smallSum β t ≡ true → SmallTerms t
 unfolding smallSum

@@ -54,7 +54,8 @@ module _ (made : List ℤ) (n to : ℕ) (w : List ℤ) (p : ℕ) (room : p ≤ l
         settled = λ β t e f g k. record {
           judged = j .is β t (drop to made) e (from-front β t g);
           standing = λ i. puts-stand w w' p r (take to made) room (subst (λ (l : List ℤ). p + length l ≤ length w) (sym g) k) q ∙ g;
-          counted = λ i. e };
+          counted = λ i. e;
+        };
       }
 
 -- two parts written one after the other
@@ -70,14 +71,15 @@ holds made to restTo w w1 w2 p a r h k i f g0 =
       low = f .low;
       high = f .high;
       both = λ rest front e1 e2 room.
-        let er : take (restTo - to) (drop to made) ≡ rest = part-take to (restTo - to) restTo made (omega arith) ∙ e1 in
-        let room1 : p + length (take (restTo - to) (drop to made)) ≤ length w = subst (λ (l : List ℤ). p + length l ≤ length w) (sym er) (omega arith) in
-        let ea : a ≡ p + length rest = puts-end w w1 p a (take (restTo - to) (drop to made)) i room1 f ∙ ap (λ (l : List ℤ). p + length l) er in
-        let room2 : a + length (take to made) ≤ length w1 = subst (λ (l : List ℤ). a + length l ≤ length w1) (sym e2) (omega (arith, f .same)) in
-        let er2 : r ≡ a + length front = puts-end w1 w2 a r (take to made) ha room2 g ∙ ap (λ (l : List ℤ). a + length l) e2 in
-        (ea,
-         kept-part w1 w2 p a rest kb (puts-stand w w1 p a (take (restTo - to) (drop to made)) i room1 f ∙ er),
-         part-take a (length front) r w2 er2 ∙ puts-stand w1 w2 a r (take to made) ha room2 g ∙ e2);
+          let er : take (restTo - to) (drop to made) ≡ rest = part-take to (restTo - to) restTo made (omega arith) ∙ e1 in
+          let room1 : p + length (take (restTo - to) (drop to made)) ≤ length w = subst (λ (l : List ℤ). p + length l ≤ length w) (sym er) (omega arith) in
+          let ea : a ≡ p + length rest = puts-end w w1 p a (take (restTo - to) (drop to made)) i room1 f ∙ ap (λ (l : List ℤ). p + length l) er in
+          let room2 : a + length (take to made) ≤ length w1 = subst (λ (l : List ℤ). a + length l ≤ length w1) (sym e2) (omega (arith, f .same)) in
+          let er2 : r ≡ a + length front = puts-end w1 w2 a r (take to made) ha room2 g ∙ ap (λ (l : List ℤ). a + length l) e2 in (
+            ea,
+            kept-part w1 w2 p a rest kb (puts-stand w w1 p a (take (restTo - to) (drop to made)) i room1 f ∙ er),
+            part-take a (length front) r w2 er2 ∙ puts-stand w1 w2 a r (take to made) ha room2 g ∙ e2,
+          );
     }
 
 -- two sums blended, and settled
@@ -87,7 +89,7 @@ joins factor w w' a n p m o o' k at small terms end b s =
     record {
       written = s .written;
       settled = λ β t u x y en em ea ep few room fit.
-        let M = b .made β t u x y en em ea ep in
-        s .settled β (blended factor t u) (M .1) (subst (λ (i : ℕ). i ≤ maxTerms) (sym (M .1)) few)
-        (M .0 ∙ take-all (length o) (sumWords β (blended factor t u) []) room) fit;
+          let M = b .made β t u x y en em ea ep in
+          s .settled β (blended factor t u) (M .1) (subst (λ (i : ℕ). i ≤ maxTerms) (sym (M .1)) few)
+          (M .0 ∙ take-all (length o) (sumWords β (blended factor t u) []) room) fit;
     }

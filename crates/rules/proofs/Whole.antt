@@ -63,7 +63,11 @@ module _ (op p n : ℕ) (c : ℤ) (w : List ℤ) (scratch : ℕ) (room : p ≤ l
   pub rewrites-none : Rewrites op p n c 0 w w scratch false 0 p
   rewrites-none =
       record {
-        same = refl; below = refl; low = omega arith; high = room; few = omega arith;
+        same = refl;
+        below = refl;
+        low = omega arith;
+        high = room;
+        few = omega arith;
         judged = λ β t x en ep e. refl;
         outcome = λ β o t x j eo en ep f wt cj r s. absurd (omega arith);
         standing = λ β o t x j eo en ep f wt cj r s e. clash e;
@@ -73,7 +77,11 @@ module _ (op p n : ℕ) (c : ℤ) (w : List ℤ) (scratch : ℕ) (room : p ≤ l
     pub rewrites-large : Judges w p n false → Rewrites op p n c (suc m) w w scratch false 0 p
     rewrites-large q =
         record {
-          same = refl; below = refl; low = omega arith; high = room; few = omega arith;
+          same = refl;
+          below = refl;
+          low = omega arith;
+          high = room;
+          few = omega arith;
           judged = λ β t x en ep e. refl;
           outcome = λ β o t x j eo en ep f wt cj r s. sym (formed-large β m o t (natAbs c) (sym (q .is β t x en ep)));
           standing = λ β o t x j eo en ep f wt cj r s e. clash e;
@@ -82,11 +90,15 @@ module _ (op p n : ℕ) (c : ℤ) (w : List ℤ) (scratch : ℕ) (room : p ≤ l
     pub rewrites-passed : (y y' : List ℤ) → scratch ≡ length y → Judges w p n true → Applies op w p n c y y' A.Passed → Rewrites op p n c (suc m) w w scratch false 0 p
     rewrites-passed y y' ey q v =
         record {
-          same = refl; below = refl; low = omega arith; high = room; few = omega arith;
+          same = refl;
+          below = refl;
+          low = omega arith;
+          high = room;
+          few = omega arith;
           judged = λ β t x en ep e. refl;
           outcome = λ β o t x j eo en ep f wt cj r s.
-            let small = sym (q .is β t x en ep) in
-            sym (formed-passed β m o t (natAbs c) small (v .outcome β o t x eo en ep f small (omega arith)));
+              let small = sym (q .is β t x en ep) in
+              sym (formed-passed β m o t (natAbs c) small (v .outcome β o t x eo en ep f small (omega arith)));
           standing = λ β o t x j eo en ep f wt cj r s e. clash e;
         }
 
@@ -105,14 +117,19 @@ module _ (op p n : ℕ) (c : ℤ) (m : ℕ) (w w' : List ℤ) (y y' : List ℤ) 
       let C = natAbs c in
       let rs = rules-sum β m o t C u (N .applied) in
       let size : sumSize u ≤ suc (sumSize t) = subst (λ (z : Sum). sumSize z ≤ suc (sumSize t)) rs (size-run (suc m) β o t C) in
-      let S = s .settled β u (N .counted) (omega (arith, N .counted, count-size u)) (N .standing) (omega (arith, words-enough β u)) in
-      (S .judged ∙ sym (formed-sum β m o t C st u (O .0) (N .applied)),
-       λ e. (S .standing e ∙ ap (λ (z : Sum). sumWords β z []) (sym rs), S .counted e ∙ ap termCount (sym rs)))
+      let S = s .settled β u (N .counted) (omega (arith, N .counted, count-size u)) (N .standing) (omega (arith, words-enough β u)) in (
+        S .judged ∙ sym (formed-sum β m o t C st u (O .0) (N .applied)),
+        λ e. (S .standing e ∙ ap (λ (z : Sum). sumWords β z []) (sym rs), S .counted e ∙ ap termCount (sym rs)),
+      )
 
   pub rewrites-sum : Rewrites op p n c (suc m) w w' (length y) small terms end
   rewrites-sum =
       record {
-        same = s .written .same; below = s .written .below; low = s .written .low; high = s .written .high; few = s .written .few;
+        same = s .written .same;
+        below = s .written .below;
+        low = s .written .low;
+        high = s .written .high;
+        few = s .written .few;
         judged = λ β t x en ep e. clash (sym e ∙ sym (q .is β t x en ep));
         outcome = λ β o t x j eo en ep f wt cj r z. settled-sum β o t x j eo en ep f r z .0;
         standing = λ β o t x j eo en ep f wt cj r z. settled-sum β o t x j eo en ep f r z .1;
@@ -225,8 +242,13 @@ module _ (op p n : ℕ) (c : ℤ) (m : ℕ) (w w1 w2 : List ℤ) (y y' : List �
         size : sumSize outcome ≤ suc (sumSize t)
         unfolding outcome
         size =
-            omega (arith, size-add (scaleSum (g .factor) (applyRules m β o (N .u) (natAbs (g .divisor)))) (N .a),
-            size-scale (g .factor) (applyRules m β o (N .u) (natAbs (g .divisor))), size-run m β o (N .u) (natAbs (g .divisor)), L .smaller)
+            omega (
+              arith,
+              size-add (scaleSum (g .factor) (applyRules m β o (N .u) (natAbs (g .divisor)))) (N .a),
+              size-scale (g .factor) (applyRules m β o (N .u) (natAbs (g .divisor))),
+              size-run m β o (N .u) (natAbs (g .divisor)),
+              L .smaller,
+            )
 
         rest-stands : drop p w2 ≡ sumWords β (N .a) (drop a w2)
         rest-stands =
@@ -263,9 +285,10 @@ module _ (op p n : ℕ) (c : ℤ) (m : ℕ) (w w1 w2 : List ℤ) (y y' : List �
             ∙ sym (rules-again β m o t (natAbs c) (g .factor) (N .u) (natAbs (g .divisor)) (N .a) (N .applied))
 
         pub again-standing : small ≡ true → (drop p (take end w3) ≡ sumWords β (applyRules (suc m) β o t (natAbs c)) []) × (terms ≡ termCount (applyRules (suc m) β o t (natAbs c)))
-        again-standing e =
-            (settled .standing e ∙ ap (λ (z : Sum). sumWords β z []) (exact e),
-             settled .counted e ∙ ap termCount (exact e))
+        again-standing e = (
+          settled .standing e ∙ ap (λ (z : Sum). sumWords β z []) (exact e),
+          settled .counted e ∙ ap termCount (exact e),
+        )
 
   pub rewrites-refused : Rewrites op a (g .terms) (g .divisor) m w1 w2 (length y') false terms1 end1 → Rewrites op p n c (suc m) w w2 (length y) false 0 p
   rewrites-refused R =

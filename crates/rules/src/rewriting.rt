@@ -24,13 +24,25 @@ pub fn settle(made: &[i64], terms: usize, end: usize, w: &mut [i64], p: usize) -
     ensures { λ r. ⌜ Settles (now (made .entry)) terms end (now (w .entry)) (now (w .exit)) p (r .small) (r .terms) (r .end) ⌝ }
 {
     if 65536 < terms {
-        return Rewritten { small: false, terms: 0, end: p };
+        return Rewritten {
+            small: false,
+            terms: 0,
+            end: p,
+        };
     }
     if !is_small_sum(made, 0, terms) {
-        return Rewritten { small: false, terms: 0, end: p };
+        return Rewritten {
+            small: false,
+            terms: 0,
+            end: p,
+        };
     }
     let e = words::copy(made, 0, end, w, p);
-    Rewritten { small: true, terms, end: e }
+    Rewritten {
+        small: true,
+        terms,
+        end: e,
+    }
 }
 
 // The words made from end to upto, written at p, and those before end behind them, from the place that is answered on.
@@ -74,14 +86,26 @@ pub fn apply_rules(
     ensures { λ r. ⌜ Rewrites op p n c fuel (now (w .entry)) (now (w .exit)) (length (now (scratch .entry))) (r .small) (r .terms) (r .end) ⌝ }
 {
     if fuel == 0 {
-        return Rewritten { small: false, terms: 0, end: p };
+        return Rewritten {
+            small: false,
+            terms: 0,
+            end: p,
+        };
     }
     if !is_small_sum(w, p, n) {
-        return Rewritten { small: false, terms: 0, end: p };
+        return Rewritten {
+            small: false,
+            terms: 0,
+            end: p,
+        };
     }
     match super::applying::apply_rule(op, w, p, n, c, scratch) {
         Applied::Passed => {
-            return Rewritten { small: false, terms: 0, end: p };
+            return Rewritten {
+                small: false,
+                terms: 0,
+                end: p,
+            };
         }
         Applied::Sum(terms, end) => {
             return settle(scratch, terms, end, w, p);
@@ -91,7 +115,11 @@ pub fn apply_rules(
             let r = apply_rules(op, w, a, g.terms, g.divisor, fuel - 1, scratch);
             let small = r.small;
             if !small {
-                return Rewritten { small: false, terms: 0, end: p };
+                return Rewritten {
+                    small: false,
+                    terms: 0,
+                    end: p,
+                };
             }
             return join(g.factor, w, a, r.terms, p, g.rest_terms, scratch);
         }

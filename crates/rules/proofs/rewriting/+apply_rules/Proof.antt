@@ -57,11 +57,11 @@ pub +apply-rules-spec : {M : Type 1} → statement M
     (λ c. search needs)
     -- returns-2
     (λ c.
-      let j = c .before in
-      let f = j .before .before in
-      let s = f .before in
-      with-fuel (counted-down _ (f .if1 .left))
-      (rewrites-large _ _ _ _ _ _ (s .pre .1 .0) _ (rw (flip-t (j .is-small-sum .result) (c .if2 .taken)) at (j .is-small-sum .ensures))))
+    let j = c .before in
+    let f = j .before .before in
+    let s = f .before in
+    with-fuel (counted-down _ (f .if1 .left))
+    (rewrites-large _ _ _ _ _ _ (s .pre .1 .0) _ (rw (flip-t (j .is-small-sum .result) (c .if2 .taken)) at (j .is-small-sum .ensures))))
     -- apply-rule-requires
     (λ c κs. search needs)
     -- enum-told
@@ -72,129 +72,132 @@ pub +apply-rules-spec : {M : Type 1} → statement M
     (λ c. search needs)
     -- returns-3
     (λ c.
-      let a = c .before .before .before in
-      let i = a .before .before .before in
-      let j = i .before in
-      let f = j .before .before in
-      let s = f .before in
-      with-fuel (counted-down _ (f .if1 .left))
-      (rewrites-passed _ _ _ _ _ _ (s .pre .1 .0) _ _ _ refl (rw (flip-f (j .is-small-sum .result) (i .if2 .left)) at (j .is-small-sum .ensures))
-      (rw (c .enum-told .given .1, toZ-ofZ (s .fits .c)) at (a .apply-rule .ensures))))
+    let a = c .before .before .before in
+    let i = a .before .before .before in
+    let j = i .before in
+    let f = j .before .before in
+    let s = f .before in
+    with-fuel (counted-down _ (f .if1 .left))
+    (rewrites-passed _ _ _ _ _ _ (s .pre .1 .0) _ _ _ refl (rw (flip-f (j .is-small-sum .result) (i .if2 .left)) at (j .is-small-sum .ensures))
+    (rw (c .enum-told .given .1, toZ-ofZ (s .fits .c)) at (a .apply-rule .ensures))))
     -- enum-known-terms
     (λ c. search needs)
     -- settle-requires
     (λ c κs.
-      let m = c .before .before .before in
-      let a = m .before .before .before in
-      let s = a .before .before .before .before .before .before .before in
-      let e = rw (m .terms .given .1, toZ-ofZ (s .fits .c)) at (a .apply-rule .ensures) in
-      (omega (arith, e .safe .1, e .same), s .pre .1 .0))
+    let m = c .before .before .before in
+    let a = m .before .before .before in
+    let s = a .before .before .before .before .before .before .before in
+    let e = rw (m .terms .given .1, toZ-ofZ (s .fits .c)) at (a .apply-rule .ensures) in
+    (omega (arith, e .safe .1, e .same), s .pre .1 .0))
     -- same-length-4
     (λ c. search needs)
     -- same-length-5
     (λ c. search needs)
     -- returns-4
     (λ c.
-      let t1 = c .before in
-      let m = t1 .before .before .before .before in
-      let a = m .before .before .before in
-      let i = a .before .before .before in
-      let j = i .before in
-      let f = j .before .before in
-      let s = f .before in
-      let e = rw (m .terms .given .1, toZ-ofZ (s .fits .c)) at (a .apply-rule .ensures) in
-      with-fuel (counted-down _ (f .if1 .left))
-      (rewrites-sum _ _ _ _ _ _ _ _ _ _ _ _ _ _ (s .pre .1 .6) (rw (flip-f (j .is-small-sum .result) (i .if2 .left)) at (j .is-small-sum .ensures)) e (t1 .settle .ensures)))
+    let t1 = c .before in
+    let m = t1 .before .before .before .before in
+    let a = m .before .before .before in
+    let i = a .before .before .before in
+    let j = i .before in
+    let f = j .before .before in
+    let s = f .before in
+    let e = rw (m .terms .given .1, toZ-ofZ (s .fits .c)) at (a .apply-rule .ensures) in
+    with-fuel (counted-down _ (f .if1 .left))
+    (rewrites-sum _ _ _ _ _ _ _ _ _ _ _ _ _ _ (s .pre .1 .6) (rw (flip-f (j .is-small-sum .result) (i .if2 .left)) at (j .is-small-sum .ensures)) e (t1 .settle .ensures)))
     -- enum-known-g
     (λ c. search needs)
     -- hold-both-requires
     (λ c κs.
-      let m = c .before .before .before in
-      let a = m .before .before .before in
-      let s = a .before .before .before .before .before .before .before in
-      let e = rw (m .g .given .1, toZ-ofZ (s .fits .c)) at (a .apply-rule .ensures) in
-      (e .safe .2, omega (arith, e .safe .3, e .same), s .pre .1 .0))
+    let m = c .before .before .before in
+    let a = m .before .before .before in
+    let s = a .before .before .before .before .before .before .before in
+    let e = rw (m .g .given .1, toZ-ofZ (s .fits .c)) at (a .apply-rule .ensures) in
+    (e .safe .2, omega (arith, e .safe .3, e .same), s .pre .1 .0))
     -- sub-apply-rules
     (λ c. search needs)
     -- apply-rules-requires
     (λ c κs.
-      let hb = c .before .before .before .before in
-      let m = hb .before .before .before .before in
-      let a = m .before .before .before in
-      let f = a .before .before .before .before .before .before in
-      let s = f .before in
-      let e = rw (m .g .given .1, toZ-ofZ (s .fits .c)) at (a .apply-rule .ensures) in
-      let d = toZ-ofZ {w = w64} {z = m .g .given .0 .0 .divisor} (record { sfits = c .struct-told .given .1 .0 .1 }) in
-      let h = hb .hold-both .ensures in
-      let more = f .if1 .left in
-      (omega (arith, s .pre .0),
-       (omega (arith, h .high, h .same),
-       e .safe .0,
-       s .pre .1 .2,
-       rw d (e .safe .4),
-       rw d (e .safe .5),
-       omega (arith, h .same, s .pre .1 .5),
-       omega (arith, e .same, s .pre .1 .6))))
+    let hb = c .before .before .before .before in
+    let m = hb .before .before .before .before in
+    let a = m .before .before .before in
+    let f = a .before .before .before .before .before .before in
+    let s = f .before in
+    let e = rw (m .g .given .1, toZ-ofZ (s .fits .c)) at (a .apply-rule .ensures) in
+    let d = toZ-ofZ {w = w64} {z = m .g .given .0 .0 .divisor} (record { sfits = c .struct-told .given .1 .0 .1 }) in
+    let h = hb .hold-both .ensures in
+    let more = f .if1 .left in (
+      omega (arith, s .pre .0),
+      (
+        omega (arith, h .high, h .same),
+        e .safe .0,
+        s .pre .1 .2,
+        rw d (e .safe .4),
+        rw d (e .safe .5),
+        omega (arith, h .same, s .pre .1 .5),
+        omega (arith, e .same, s .pre .1 .6),
+      ),
+    ))
     -- same-length-6
     (λ c. search needs)
     -- same-length-7
     (λ c. search needs)
     -- returns-5
     (λ c.
-      let r = c .before .before .before in
-      let st = r .before in
-      let hb = st .before .before .before .before in
-      let m = hb .before .before .before .before in
-      let a = m .before .before .before in
-      let i = a .before .before .before in
-      let j = i .before in
-      let f = j .before .before in
-      let s = f .before in
-      let e = rw (m .g .given .1, toZ-ofZ (s .fits .c)) at (a .apply-rule .ensures) in
-      let d = toZ-ofZ {w = w64} {z = m .g .given .0 .0 .divisor} (record { sfits = st .struct-told .given .1 .0 .1 }) in
-      let q = rw (flip-f (j .is-small-sum .result) (i .if2 .left)) at (j .is-small-sum .ensures) in
-      let R = rw (d, flip-t (r .apply-rules .result .small) (c .if3 .taken)) at (r .apply-rules .ensures) in
-      with-fuel (counted-down _ (f .if1 .left))
-      (rewrites-refused _ _ _ _ _ _ _ _ _ _ _ _ _ _ (s .pre .1 .0) (above-zero _ (s .pre .1 .3)) q e (hb .hold-both .ensures) R))
+    let r = c .before .before .before in
+    let st = r .before in
+    let hb = st .before .before .before .before in
+    let m = hb .before .before .before .before in
+    let a = m .before .before .before in
+    let i = a .before .before .before in
+    let j = i .before in
+    let f = j .before .before in
+    let s = f .before in
+    let e = rw (m .g .given .1, toZ-ofZ (s .fits .c)) at (a .apply-rule .ensures) in
+    let d = toZ-ofZ {w = w64} {z = m .g .given .0 .0 .divisor} (record { sfits = st .struct-told .given .1 .0 .1 }) in
+    let q = rw (flip-f (j .is-small-sum .result) (i .if2 .left)) at (j .is-small-sum .ensures) in
+    let R = rw (d, flip-t (r .apply-rules .result .small) (c .if3 .taken)) at (r .apply-rules .ensures) in
+    with-fuel (counted-down _ (f .if1 .left))
+    (rewrites-refused _ _ _ _ _ _ _ _ _ _ _ _ _ _ (s .pre .1 .0) (above-zero _ (s .pre .1 .3)) q e (hb .hold-both .ensures) R))
     -- join-requires
     (λ c κs.
-      let r = c .before .before .before .before .before .before in
-      let st = r .before in
-      let hb = st .before .before .before .before in
-      let m = hb .before .before .before .before in
-      let a = m .before .before .before in
-      let s = a .before .before .before .before .before .before .before in
-      let e = rw (m .g .given .1, toZ-ofZ (s .fits .c)) at (a .apply-rule .ensures) in
-      let R = r .apply-rules .ensures in
-      let h = hb .hold-both .ensures in
-      (omega (arith, h .high, h .same, R .same), omega (arith, s .pre .1 .0, h .same, R .same), R .few, e .safe .1))
+    let r = c .before .before .before .before .before .before in
+    let st = r .before in
+    let hb = st .before .before .before .before in
+    let m = hb .before .before .before .before in
+    let a = m .before .before .before in
+    let s = a .before .before .before .before .before .before .before in
+    let e = rw (m .g .given .1, toZ-ofZ (s .fits .c)) at (a .apply-rule .ensures) in
+    let R = r .apply-rules .ensures in
+    let h = hb .hold-both .ensures in
+    (omega (arith, h .high, h .same, R .same), omega (arith, s .pre .1 .0, h .same, R .same), R .few, e .safe .1))
     -- same-length-8
     (λ c. search needs)
     -- same-length-9
     (λ c.
-      let n = c .before .before in
-      let r = n .before .before .before .before .before .before .before in
-      let a = r .before .before .before .before .before .before .before .before .before .before .before .before in
-      n .join .kept .1 .1 .1 .1 .1 .1 .0 ∙ r .apply-rules .kept .1 .1 .1 .1 .1 .1 .0 ∙ a .apply-rule .kept .1 .1 .1 .1 .1 .0)
+    let n = c .before .before in
+    let r = n .before .before .before .before .before .before .before in
+    let a = r .before .before .before .before .before .before .before .before .before .before .before .before in
+    n .join .kept .1 .1 .1 .1 .1 .1 .0 ∙ r .apply-rules .kept .1 .1 .1 .1 .1 .1 .0 ∙ a .apply-rule .kept .1 .1 .1 .1 .1 .0)
     -- returns-6
     (λ c.
-      let n = c .before .before in
-      let l = n .before .before .before .before in
-      let r = l .before .before .before in
-      let st = r .before in
-      let hb = st .before .before .before .before in
-      let m = hb .before .before .before .before in
-      let a = m .before .before .before in
-      let i = a .before .before .before in
-      let j = i .before in
-      let f = j .before .before in
-      let s = f .before in
-      let e = rw (m .g .given .1, toZ-ofZ (s .fits .c)) at (a .apply-rule .ensures) in
-      let d = toZ-ofZ {w = w64} {z = m .g .given .0 .0 .divisor} (record { sfits = st .struct-told .given .1 .0 .1 }) in
-      let k = toZ-ofZ {w = w64} {z = m .g .given .0 .0 .factor} (record { sfits = n .before .struct-told2 .given .0 .1 }) in
-      let q = rw (flip-f (j .is-small-sum .result) (i .if2 .left)) at (j .is-small-sum .ensures) in
-      let R = rw (d, flip-f (r .apply-rules .result .small) (l .if3 .left)) at (r .apply-rules .ensures) in
-      let J = rw k at (n .join .ensures) in
-      with-fuel (counted-down _ (f .if1 .left))
-      (rewrites-again _ _ _ _ _ _ _ _ _ _ _ _ _ _ (s .pre .1 .0) (above-zero _ (s .pre .1 .3)) q e (hb .hold-both .ensures) R (s .pre .1 .6) _ _
-      (r .apply-rules .kept .1 .1 .1 .1 .1 .1 .0 ∙ a .apply-rule .kept .1 .1 .1 .1 .1 .0) _ _ _ J))
+    let n = c .before .before in
+    let l = n .before .before .before .before in
+    let r = l .before .before .before in
+    let st = r .before in
+    let hb = st .before .before .before .before in
+    let m = hb .before .before .before .before in
+    let a = m .before .before .before in
+    let i = a .before .before .before in
+    let j = i .before in
+    let f = j .before .before in
+    let s = f .before in
+    let e = rw (m .g .given .1, toZ-ofZ (s .fits .c)) at (a .apply-rule .ensures) in
+    let d = toZ-ofZ {w = w64} {z = m .g .given .0 .0 .divisor} (record { sfits = st .struct-told .given .1 .0 .1 }) in
+    let k = toZ-ofZ {w = w64} {z = m .g .given .0 .0 .factor} (record { sfits = n .before .struct-told2 .given .0 .1 }) in
+    let q = rw (flip-f (j .is-small-sum .result) (i .if2 .left)) at (j .is-small-sum .ensures) in
+    let R = rw (d, flip-f (r .apply-rules .result .small) (l .if3 .left)) at (r .apply-rules .ensures) in
+    let J = rw k at (n .join .ensures) in
+    with-fuel (counted-down _ (f .if1 .left))
+    (rewrites-again _ _ _ _ _ _ _ _ _ _ _ _ _ _ (s .pre .1 .0) (above-zero _ (s .pre .1 .3)) q e (hb .hold-both .ensures) R (s .pre .1 .6) _ _
+    (r .apply-rules .kept .1 .1 .1 .1 .1 .1 .0 ∙ a .apply-rule .kept .1 .1 .1 .1 .1 .0) _ _ _ J))
