@@ -14,9 +14,10 @@ use Rattle.expression.specs.declared.Leaf.the-variants.{Constant}
 use Rattle.expression.specs.declared.One.the-variants.{Product}
 use Rattle.folding.specs.Sum.{Atom, Sum, termCount, kindNumber, opNumber, atomRange}
 use Rattle.folding.specs.Fold.{termTree, constantTree, atomTree, sumTree, joinTerms}
-use Rattle.words.specs.Laid.{constantOf, atomWords, termWords, sumWords, word-is, kind-small, op-large}
-use Rattle.words.specs.Post.{Forward, SkipsA}
-use Rattle.words.proofs.Over.{ahead, not-empty}
+use Rattle.words.specs.Words.{constantOf, atomWords, termWords, sumWords}
+use Rattle.words.proofs.Reading.{word-is, kind-small, op-large}
+use Rattle.words.specs.Contracts.{Forward, SkipsAtom}
+use Rattle.words.proofs.Skipping.{ahead, not-empty}
 use Rattle.encoding.specs.Postfix.{postfix, variableOf, opNode, kindOf, valueOf, Encodable, EncodableAtom, EncodableSum}
 use Rattle.encoding.specs.Written.{factorNodes, joinNodes, constantNodes, sumNodes, Room, Put, Written, IsPlace, IsOp, Kept, EmitsAtom, EmitsTerms, EmitsSum}
 use Rattle.encoding.proofs.Stored.{one, both, kept, put-kept, still, kept-then}
@@ -168,7 +169,7 @@ of-constant alone w p n {ks} {ks'} {vs} {vs'} {at} {r} o z u = record { kept = k
     go β (Sum.term c a t) x q e = absurd (omega arith)
 
 pub of-term : (alone : Bool) (w : List ℤ) (p n q next : ℕ) {ks ks1 ks2 ks3 : List ℕ} {vs vs1 vs2 vs3 : List ℤ} {at end e r : ℕ} → Room ks vs at → (n ≡ 0 → ⊥)
-    → EmitsAtom w p ks ks1 vs vs1 at end → SkipsA w p q → Written (factorNodes (getD w q (pos 0)) ++ joinNodes alone) ks1 ks2 vs1 vs2 end e
+    → EmitsAtom w p ks ks1 vs vs1 at end → SkipsAtom w p q → Written (factorNodes (getD w q (pos 0)) ++ joinNodes alone) ks1 ks2 vs1 vs2 end e
     → Forward w q 1 next → EmitsTerms false w next (n - 1) ks2 ks3 vs2 vs3 e r → EmitsTerms alone w p n ks ks3 vs vs3 at r
 unfolding sumWords termWords constantOf termCount sumNodes
 of-term alone w p n q next {ks} {ks1} {ks2} {ks3} {vs} {vs1} {vs2} {vs3} {at} {end} {e} {r} o z a sk u f ts =

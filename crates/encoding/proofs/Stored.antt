@@ -14,7 +14,7 @@ use Rattle.expression.specs.declared.Node.{Node}
 use Rattle.expression.specs.declared.Node.the-variants as N
 use Rattle.expression.specs.declared.Leaf.the-variants.{Constant}
 use Rattle.expression.specs.declared.One.the-variants.{Product}
-use Rattle.words.proofs.Rule.{try-yes, try-no}
+use Rattle.words.proofs.Trial.{try-yes, try-no}
 use Rattle.encoding.specs.Postfix.{kindOf, valueOf}
 use Rattle.encoding.specs.Written.{counted, factorNodes, joinNodes, constantNodes, Room, Put, Written, Kept}
 use Rattle.encoding.proofs.Lists.{map-append}

@@ -14,7 +14,7 @@ use Rattle.expression.specs.declared.Leaf.the-variants.{Constant}
 use Rattle.expression.specs.declared.One.the-variants.{Product}
 use Rattle.folding.specs.Sum.{Atom, Sum, termCount, kindNumber, opNumber}
 use Rattle.folding.specs.Fold.{atomTree, sumTree}
-use Rattle.words.specs.Laid.{atomWords, sumWords}
+use Rattle.words.specs.Words.{atomWords, sumWords}
 use Rattle.encoding.specs.Postfix.{variableOf, opNode, postfix, kindOf, valueOf}
 
 -- nodes are counted up to one past the most that a map has

@@ -35,15 +35,23 @@ fn emit_atom(w: &[i64], p: usize, kinds: &mut [u8], values: &mut [i64], at: usiz
     if p >= w.len() {
         return at;
     }
-    let kind = words::nat(w, p);
+    let kind = words::magnitude_at(w, p);
     let second = words::forward(w, p, 1);
     if kind < 3 {
-        let place = super::writing::place_of(kind, words::nat(w, second));
+        let place = super::writing::place_of(kind, words::magnitude_at(w, second));
         return super::writing::put_node(kinds, values, at, 0, place);
     }
     let third = words::forward(w, p, 2);
     let inner = words::forward(w, p, 3);
-    let end = emit_terms(w, inner, words::nat(w, third), true, kinds, values, at);
+    let end = emit_terms(
+        w,
+        inner,
+        words::magnitude_at(w, third),
+        true,
+        kinds,
+        values,
+        at,
+    );
     super::writing::put_node(
         kinds,
         values,

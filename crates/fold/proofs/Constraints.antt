@@ -17,8 +17,8 @@ use Rattle.folding.specs.Fold.{foldSum}
 use Rattle.folding.specs.Working.{smallSum}
 use Rattle.folding.specs.Map.{Constraint, constraintTrees, foldTree, foldConstraints, isInside, smallTrees}
 use Rattle.folding.proofs.Judged.{fold-small}
-use Rattle.words.specs.Post.{Reckons}
-use Rattle.words.proofs.Ends.{clash}
+use Rattle.words.specs.Contracts.{Reckons}
+use Rattle.words.proofs.Tests.{clash}
 use Rattle.expression.specs.Expression.{nodeCount}
 use Rattle.encoding.specs.Postfix.{postfix}
 use Rattle.encoding.specs.Written.{Room, Written, EmitsSum}

@@ -16,8 +16,8 @@ use Rattle.indexing.specs.declared.IndexingMap.{IndexingMap}
 use Rattle.folding.specs.Fold.{foldSum}
 use Rattle.folding.specs.Working.{smallWorking}
 use Rattle.folding.specs.Map.{foldTree, foldResults, smallTrees}
-use Rattle.words.specs.Laid.{sumWords}
-use Rattle.words.proofs.Ends.{clash}
+use Rattle.words.specs.Words.{sumWords}
+use Rattle.words.proofs.Tests.{clash}
 use Rattle.expression.specs.Expression.{nodeCount}
 use Rattle.encoding.specs.Postfix.{postfix}
 use Rattle.encoding.specs.Written.{counted, Room, Written, EmitsSum}

@@ -13,7 +13,7 @@ use Rattle.folding.specs.Sum.{Sum, termCount, sumRange}
 use Rattle.folding.specs.Fold.{foldSum}
 use Rattle.folding.specs.Working.{smallSum, smallWorking}
 use Rattle.folding.specs.Map.{Constraint, foldTree, isInside, smallTrees, constraintTrees}
-use Rattle.words.specs.Laid.{sumWords}
+use Rattle.words.specs.Words.{sumWords}
 use Rattle.encoding.specs.Postfix.{postfix}
 use Rattle.encoding.specs.Written.{Kept, Written}
 use Rattle.encoding.specs.Encode.{filled, nodesOf, Holds}

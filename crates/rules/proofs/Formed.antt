@@ -1,32 +1,15 @@
 -- All rules applied, by what the first of them makes. Assumes nothing.
-use mathlib.Core.Path.{_≡_, refl, sym, ap, ap₂, _∙_, subst}
-use mathlib.Core.Bool.{Bool, true, false, cond, _&&_}
+use mathlib.Core.Path.{_≡_, refl, ap, _∙_}
+use mathlib.Core.Bool.{Bool, true, false, _&&_}
 use mathlib.Core.List.{List, [], _∷_, _++_}
-use Prim.Native.Nat.{ℕ, zero, suc, _+_, _*_, _-_, _^_, _<_, _≤_}
-use native.Mathlib.Omega.{arith}
-use lib.IntN.{ℤ, pos, natAbs}
-use lib.ListN.{length, drop, take, length-append}
-use lib.Seq.{length-take-le}
-use lib.Signed.{_<ℤ_}
+use Prim.Native.Nat.{ℕ, suc, _+_, _-_}
+use lib.IntN.{ℤ}
 use Rattle.expression.specs.Expression.{Kind, Op, Range}
-use Rattle.folding.specs.Sum.{Sum, termCount, sumSize, opNumber}
-use Rattle.folding.specs.Fold.{Step, is, again, addSums, scaleSum, applyRule, applyRules, divisorsTried}
-use Rattle.folding.specs.Folded.{FoldedS, weight}
-use Rattle.folding.specs.Working.{smallSum, smallSums, restsTried, sumsFormed}
-use Rattle.folding.proofs.Ending.{Good, step-good, run-folded}
-use Rattle.folding.proofs.Size.{size-run, size-add, size-scale}
-use Rattle.words.specs.Laid.{sumWords}
-use Rattle.words.specs.Sat.{saturateSum}
-use Rattle.words.specs.Merge.{blended}
-use Rattle.words.specs.Plus.{Sorted, blend-law}
-use Rattle.words.specs.Room.{words-enough}
-use Rattle.words.proofs.Ends.{clash}
-use Rattle.words.proofs.Okay.{ok-sat, ok-kept}
-use Rattle.rules.specs.Outcome.{maxTerms, outcomeRoom, rulesRoom, restsOf, NewOp, NewSum, Outcome, Applies, Rewrites}
-use Rattle.rules.specs.Rewriting.{Judges, Written, Settled, Settles, Holds, Joins}
+use Rattle.folding.specs.Sum.{Sum}
+use Rattle.folding.specs.Fold.{Step, is, again, addSums, scaleSum, applyRule, applyRules}
+use Rattle.folding.specs.Working.{smallSum, smallSums, sumsFormed}
+use Rattle.rules.specs.Outcome.{restsOf}
 use Rattle.rules.specs.declared.Applied.the-variants as A
-use Rattle.rules.proofs.Standing.{sum-rest, part-stands, kept-part, kept-front}
-use Rattle.rules.proofs.Rest.{Leaves, SmallTerms, small-terms, terms-kept, leaves}
 
 -- ---- sums formed, judged part by part
 

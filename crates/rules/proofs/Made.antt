@@ -18,12 +18,13 @@ use Rattle.folding.specs.Fold.{Step, is, again, addConstant, partP, partR, rule
 use Rattle.folding.specs.Working.{smallSum}
 use Rattle.folding.specs.Folded.{FoldedA, FoldedS}
 use Rattle.folding.proofs.Size.{size-parts}
-use Rattle.words.specs.Laid.{atomWords, termWords, sumWords, constantOf, word-is}
-use Rattle.words.specs.Sat.{saturateSum, scaled, shifted}
-use Rattle.words.specs.Room.{words-enough}
-use Rattle.words.specs.Post.{Forward, Skips, Puts, Makes, Reckons, Wraps}
-use Rattle.words.proofs.Over.{ahead}
-use Rattle.words.proofs.Whole.{sum-words}
+use Rattle.words.specs.Words.{atomWords, termWords, sumWords, constantOf}
+use Rattle.words.proofs.Reading.{word-is}
+use Rattle.words.specs.Saturated.{saturateSum, scaled, shifted}
+use Rattle.words.proofs.Room.{words-enough}
+use Rattle.words.specs.Contracts.{Forward, Skips, Puts, Makes, Reckons, Wraps}
+use Rattle.words.proofs.Skipping.{ahead}
+use Rattle.words.proofs.Copied.{sum-words}
 use Rattle.rules.specs.Outcome.{maxTerms, outcomeRoom}
 use Rattle.rules.specs.Rules.{Keeps, Nests, OpEnds, maxMultiple, Leaves, Shifts, SumStands, OpStands, StepStands, newOp, Always, Trial, Takes}
 use Rattle.rules.specs.declared.Applied.{Applied}

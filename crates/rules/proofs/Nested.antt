@@ -17,12 +17,14 @@ use Rattle.expression.proofs.Within.{eqℤ-eq}
 use Rattle.folding.specs.Sum.{Atom, Sum, termCount, kindNumber, opNumber, atomRange}
 use Rattle.folding.specs.Fold.{Step, again, stays, rule4}
 use Rattle.folding.specs.Folded.{FoldedS}
-use Rattle.words.specs.Laid.{atomWords, termWords, sumWords, constantOf, word-is, kind-small}
-use Rattle.words.specs.Sat.{saturate, sat-in, sat-out}
-use Rattle.words.specs.Post.{Forward, SkipsA}
-use Rattle.words.proofs.Over.{ahead}
-use Rattle.words.proofs.Ends.{clash}
-use Rattle.words.proofs.Rule.{try-yes}
+use Rattle.words.specs.Words.{atomWords, termWords, sumWords, constantOf}
+use Rattle.words.proofs.Reading.{word-is, kind-small}
+use Rattle.words.specs.Saturated.{saturate}
+use Rattle.words.proofs.Saturated.{sat-in, sat-out}
+use Rattle.words.specs.Contracts.{Forward, SkipsAtom}
+use Rattle.words.proofs.Skipping.{ahead}
+use Rattle.words.proofs.Tests.{clash}
+use Rattle.words.proofs.Trial.{try-yes}
 use Rattle.rules.specs.Rules.{keptDivisor, nestedDivisor, Nests}
 
 -- an atom's first word
@@ -85,11 +87,11 @@ module _ (w : List ℤ) (p : ℕ) (β : Kind → ℕ → Range) (e : ℤ) (x : S
   unfolding kindOf opNumber
   at-floordiv = at-kind w p β e (Atom.op floordiv x a) (Sum.const k) y standing
 
-  pub at-coefficient : (q : ℕ) → SkipsA w p q → getD w q (pos 0) ≡ e
+  pub at-coefficient : (q : ℕ) → SkipsAtom w p q → getD w q (pos 0) ≡ e
   unfolding sumWords termWords constantOf
   at-coefficient q s = word-is w q e (k ∷ y) (s .past β (Atom.op floordiv x a) (e ∷ k ∷ y) standing)
 
-  pub at-constant : (q b : ℕ) → SkipsA w p q → Forward w q 1 b → getD w b (pos 0) ≡ k
+  pub at-constant : (q b : ℕ) → SkipsAtom w p q → Forward w q 1 b → getD w b (pos 0) ≡ k
   unfolding sumWords termWords constantOf
   at-constant q b s f = word-is w b k y (ahead w q 1 b (e ∷ []) (k ∷ y) (s .past β (Atom.op floordiv x a) (e ∷ k ∷ y) standing) refl (omega arith) f)
 
@@ -121,7 +123,7 @@ module _ (op : ℕ) (w : List ℤ) (p n c : ℕ) where
           pick false v e1 e2 = refl
 
   -- the rule's tests hold in the words
-  pub nest-is : (q b d : ℕ) (r : ℤ) → 0 < c → SkipsA w p q → Forward w q 1 b → Forward w p 1 d
+  pub nest-is : (q b d : ℕ) (r : ℤ) → 0 < c → SkipsAtom w p q → Forward w q 1 b → Forward w p 1 d
       → op ≡ 3 → n ≡ 1 → natAbs (getD w p (pos 0)) ≡ 3 → getD w q (pos 0) ≡ pos 1 → getD w b (pos 0) ≡ pos 0 → r ≡ keptDivisor (saturate (getD w d (pos 0) *ℤ pos c)) → Nests op w p n c r
   unfolding nestedDivisor termCount kindOf opNumber FoldedS
   nest-is q b d r pc s f g h3 h1 hk hq hb er = record {

@@ -14,7 +14,7 @@ use Rattle.expression.specs.Expression.{Op, floordiv, modulo, span, opRange}
 use Rattle.expression.specs.Node.{maxDivisor}
 use Rattle.expression.proofs.Ring.{rem-lt, rem-is}
 use Rattle.folding.specs.Sum.{opNumber}
-use Rattle.words.proofs.Rule.{try-yes, try-no}
+use Rattle.words.proofs.Trial.{try-yes, try-no}
 use Rattle.rules.specs.Rules.{OpEnds, maxMultiple, Leaves}
 
 module _ (op : ℕ) (lo hi : ℤ) (c : ℕ) where

@@ -11,7 +11,7 @@ use Rattle.expression.specs.Expression.{Kind, Op, Range}
 use Rattle.folding.specs.Sum.{Sum, termCount}
 use Rattle.folding.specs.Fold.{Step, divisorsTried, rule1, rule2, rules34, rules2, applyRule}
 use Rattle.folding.specs.Working.{smallSums, restsTried}
-use Rattle.words.specs.Laid.{sumWords}
+use Rattle.words.specs.Words.{sumWords}
 use Rattle.rules.specs.Outcome.{outcomeRoom, restsOf, Outcome, Safe, Applies}
 use Rattle.rules.specs.Rules.{Searches, StepStands, Always, Trial, Takes}
 use Rattle.rules.specs.declared.Applied.{Applied}

@@ -9,10 +9,10 @@ use lib.Seq.{take-all, length-take-le, take-at, drop-at, getD-append-seam}
 use Rattle.expression.specs.Expression.{Kind, Range}
 use Rattle.folding.specs.Sum.{Sum, termCount}
 use Rattle.folding.specs.Fold.{addConstant}
-use Rattle.words.specs.Laid.{atomWords, termWords, sumWords, constantOf}
-use Rattle.words.specs.Sat.{saturate, shifted}
-use Rattle.words.specs.Post.{Puts}
-use Rattle.words.proofs.Make.{laidT-rest}
+use Rattle.words.specs.Words.{atomWords, termWords, sumWords, constantOf}
+use Rattle.words.specs.Saturated.{saturate, shifted}
+use Rattle.words.specs.Contracts.{Puts}
+use Rattle.words.proofs.TermByTerm.{terms-rest}
 
 -- what was written with room is not cut off
 pub written : (ws o o' : List ℤ) (at r : ℕ) → at + length ws ≤ length o → r ≤ length o → length o' ≡ length o
@@ -33,7 +33,7 @@ two-parts X Y o e r h k = (
 -- a sum's words end in its constant
 pub last-apart : (β : Kind → ℕ → Range) (t : Sum) → sumWords β t [] ≡ termWords β t [] ++ (constantOf t ∷ [])
 unfolding sumWords
-last-apart β t = laidT-rest β t (constantOf t ∷ [])
+last-apart β t = terms-rest β t (constantOf t ∷ [])
 
 -- another constant in its place
 shift-apart : (β : Kind → ℕ → Range) (z : ℤ) (t : Sum) → sumWords β (shifted z t) [] ≡ termWords β t [] ++ (saturate (z +ℤ constantOf t) ∷ [])

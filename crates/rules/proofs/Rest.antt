@@ -1,5 +1,5 @@
 -- What a new floordiv or mod leaves outside: its coefficients are small, and the words of both find room. Assumes nothing.
-use mathlib.Core.Path.{_≡_, refl, sym, ap, _∙_, subst}
+use mathlib.Core.Path.{_≡_, refl, sym, ap, subst}
 use mathlib.Core.Logic.{_≢_}
 use mathlib.Core.Bool.{Bool, true, false, cond, _&&_}
 use mathlib.Core.List.{List, [], _∷_}
@@ -21,8 +21,8 @@ use Rattle.folding.specs.Working.{smallFrom, smallSum}
 use Rattle.folding.proofs.Divisors.{Tried, all-tried}
 use Rattle.folding.proofs.Ending.{keeps-rest, flag-le, flag-true, size-partP, size-partR, size-constant}
 use Rattle.folding.proofs.Size.{size-parts}
-use Rattle.words.specs.Sat.{saturate, sat-in}
-use Rattle.words.specs.Plus.{Kept}
+use Rattle.words.proofs.Saturated.{sat-in}
+use Rattle.words.specs.Merged.{Kept}
 use Rattle.rules.specs.Outcome.{rulesRoom}
 
 -- every coefficient is within the limit

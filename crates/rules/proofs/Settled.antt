@@ -1,21 +1,21 @@
 -- A sum judged and settled, held and joined. Assumes nothing.
 use mathlib.Core.Path.{_≡_, refl, sym, ap, _∙_, subst}
 use mathlib.Core.Bool.{Bool, true, false}
-use mathlib.Core.List.{List, [], _∷_, _++_}
+use mathlib.Core.List.{List, []}
 use Prim.Native.Nat.{ℕ, _+_, _-_, _<_, _≤_}
 use native.Mathlib.Omega.{arith}
 use lib.IntN.{ℤ, pos}
 use lib.ListN.{length, drop, take}
-use lib.Seq.{take-all, take-take, length-take-le}
+use lib.Seq.{take-all}
 use Rattle.expression.specs.Expression.{Kind, Range}
-use Rattle.folding.specs.Sum.{Sum, termCount}
+use Rattle.folding.specs.Sum.{Sum}
 use Rattle.folding.specs.Working.{smallSum}
-use Rattle.words.specs.Laid.{sumWords}
-use Rattle.words.specs.Merge.{blended}
-use Rattle.words.specs.Post.{Puts, Makes2, Reckons}
-use Rattle.words.proofs.Ends.{clash}
+use Rattle.words.specs.Words.{sumWords}
+use Rattle.words.specs.Merged.{blended}
+use Rattle.words.specs.Contracts.{Puts, Merges, Reckons}
+use Rattle.words.proofs.Tests.{clash}
 use Rattle.rules.specs.Outcome.{maxTerms}
-use Rattle.rules.specs.Rewriting.{Judges, Written, Settled, Settles, Holds, Joins}
+use Rattle.rules.specs.Rewriting.{Judges, Written, Settles, Holds, Joins}
 use Rattle.rules.proofs.Standing.{sum-rest, front-stands, puts-below, puts-end, puts-stand, part-take, kept-part, kept-front}
 
 -- the part from 0 on is the front
@@ -84,7 +84,7 @@ holds made to restTo w w1 w2 p a r h k i f g0 =
 
 -- two sums blended, and settled
 pub joins : (factor : ℤ) (w w' : List ℤ) (a n p m : ℕ) (o o' : List ℤ) (k at : ℕ) (small : Bool) (terms end : ℕ)
-    → Makes2 (blended factor) w a n w p m o o' 0 k at → Settles o' k at w w' p small terms end → Joins factor w w' a n p m (length o) small terms end
+    → Merges (blended factor) w a n w p m o o' 0 k at → Settles o' k at w w' p small terms end → Joins factor w w' a n p m (length o) small terms end
 joins factor w w' a n p m o o' k at small terms end b s =
     record {
       written = s .written;

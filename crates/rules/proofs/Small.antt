@@ -17,10 +17,11 @@ use Rattle.folding.specs.Fold.{divides, partP, partR, addConstant, quotientOf, 
 use Rattle.folding.specs.Working.{smallFrom, smallSum}
 use Rattle.folding.specs.Folded.{FoldedS}
 use Rattle.folding.proofs.Divisors.{one-l}
-use Rattle.words.specs.Laid.{constantOf}
-use Rattle.words.specs.Sat.{saturateSum, shifted}
-use Rattle.words.specs.Merge.{cons-more}
-use Rattle.words.proofs.Ends.{sat-kept, clash}
+use Rattle.words.specs.Words.{constantOf}
+use Rattle.words.specs.Saturated.{saturateSum, shifted}
+use Rattle.words.proofs.Merged.{cons-more}
+use Rattle.words.proofs.Ends.{sat-kept}
+use Rattle.words.proofs.Tests.{clash}
 use Rattle.rules.specs.Rules.{maxMultiple}
 
 -- every number of a sum is within the limit

@@ -9,18 +9,18 @@ use lib.ListN.{length, drop, take, take-append-drop, length-append}
 use lib.Seq.{take-all, take-take, take-append-le, length-take-le, drop-at, drop-append-le, take-nil}
 use Rattle.expression.specs.Expression.{Kind, Range}
 use Rattle.folding.specs.Sum.{Sum}
-use Rattle.words.specs.Laid.{termWords, sumWords, constantOf}
-use Rattle.words.specs.Post.{Puts}
-use Rattle.words.specs.Room.{stands}
-use Rattle.words.proofs.Make.{laidT-rest}
+use Rattle.words.specs.Words.{termWords, sumWords, constantOf}
+use Rattle.words.specs.Contracts.{Puts}
+use Rattle.words.proofs.Room.{stands}
+use Rattle.words.proofs.TermByTerm.{terms-rest}
 
 -- the words of a sum before a rest are its words, and the rest
 pub sum-rest : (β : Kind → ℕ → Range) (t : Sum) (x : List ℤ) → sumWords β t x ≡ sumWords β t [] ++ x
 unfolding sumWords
 sum-rest β t x =
-    laidT-rest β t (constantOf t ∷ x)
+    terms-rest β t (constantOf t ∷ x)
     ∙ sym (append-assoc (termWords β t []) (constantOf t ∷ []) x)
-    ∙ ap (λ (l : List ℤ). l ++ x) (sym (laidT-rest β t (constantOf t ∷ [])))
+    ∙ ap (λ (l : List ℤ). l ++ x) (sym (terms-rest β t (constantOf t ∷ [])))
 
 -- words up to a place, and what follows
 pub front-stands : (w : List ℤ) (e : ℕ) (ws : List ℤ) → take e w ≡ ws → w ≡ ws ++ drop e w

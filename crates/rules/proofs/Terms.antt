@@ -16,11 +16,12 @@ use Rattle.integer.specs.Floor.{floorDiv, floorMod}
 use Rattle.expression.specs.Expression.{Kind, Range, eqℤ}
 use Rattle.folding.specs.Sum.{Atom, Sum, termCount}
 use Rattle.folding.specs.Fold.{divides, keepsAll}
-use Rattle.words.specs.Laid.{termWords, sumWords, constantOf, word-is}
-use Rattle.words.specs.Part.{divides-yes, divides-no}
-use Rattle.words.specs.Post.{Forward, SkipsA}
-use Rattle.words.proofs.Over.{ahead}
-use Rattle.words.proofs.Rule.{try-yes, try-no}
+use Rattle.words.specs.Words.{termWords, sumWords, constantOf}
+use Rattle.words.proofs.Reading.{word-is}
+use Rattle.words.proofs.Parts.{divides-yes, divides-no}
+use Rattle.words.specs.Contracts.{Forward, SkipsAtom}
+use Rattle.words.proofs.Skipping.{ahead}
+use Rattle.words.proofs.Trial.{try-yes, try-no}
 use Rattle.rules.specs.Rules.{largerBelow, nextDivisor, Nexts, Keeps}
 use Rattle.rules.proofs.Search.{larger-least, larger-below}
 
@@ -33,7 +34,7 @@ zero-test z F = go (eqb (ofZ w64 z) 0) refl
     go false e = try-no z (pos 0) (λ i. eqb-false (ofZ w64 z) 0 e (ap (ofZ w64) i))
 
 -- what holds of the rest of the terms, and how the first one's coefficient joins it
-by-terms : {A : Type 0} (f : Sum → A) (w : List ℤ) (p n q b : ℕ) (r s : A) → (n ≡ 0 → ⊥) → SkipsA w p q → Forward w q 1 b
+by-terms : {A : Type 0} (f : Sum → A) (w : List ℤ) (p n q b : ℕ) (r s : A) → (n ≡ 0 → ⊥) → SkipsAtom w p q → Forward w q 1 b
     → ((a : Atom) (t : Sum) → r ≡ f t → s ≡ f (Sum.term (getD w q (pos 0)) a t))
     → ((β : Kind → ℕ → Range) (t : Sum) (x : List ℤ) → n - 1 ≡ termCount t → drop b w ≡ sumWords β t x → r ≡ f t)
     → (β : Kind → ℕ → Range) (t : Sum) (x : List ℤ) → n ≡ termCount t → drop p w ≡ sumWords β t x → s ≡ f t
@@ -57,7 +58,7 @@ module _ (w : List ℤ) (p n c b : ℕ) where
   unfolding nextDivisor
   next-none z = record { low = omega arith; high = λ h. h; is = no-terms (nextDivisor c b) w p n 1 z refl }
 
-  pub next-more : (q m r : ℕ) → (n ≡ 0 → ⊥) → SkipsA w p q → Forward w q 1 m → Nexts w m (n - 1) c b r → Nexts w p n c b (largerBelow b (gcdOf c (natAbs (getD w q (pos 0)))) r)
+  pub next-more : (q m r : ℕ) → (n ≡ 0 → ⊥) → SkipsAtom w p q → Forward w q 1 m → Nexts w m (n - 1) c b r → Nexts w p n c b (largerBelow b (gcdOf c (natAbs (getD w q (pos 0)))) r)
   unfolding nextDivisor
   next-more q m r z a f k =
       let g = gcdOf c (natAbs (getD w q (pos 0))) in
@@ -72,7 +73,7 @@ module _ (w : List ℤ) (p n c : ℕ) where
   unfolding keepsAll
   keeps-last r z e = record { is = no-terms (keepsAll c) w p n r z e }
 
-  module _ (q b : ℕ) (z : n ≡ 0 → ⊥) (a : SkipsA w p q) where
+  module _ (q b : ℕ) (z : n ≡ 0 → ⊥) (a : SkipsAtom w p q) where
     pub keeps-not : floorMod (getD w q (pos 0)) c ≡ pos 0 → Keeps w p n c false
     unfolding keepsAll termCount sumWords termWords constantOf
     keeps-not e = record { is = go }

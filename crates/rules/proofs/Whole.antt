@@ -1,8 +1,8 @@
 -- All rules applied to words, by what the first of them makes: nothing, a sum, or a new floordiv or mod. Assumes nothing.
-use mathlib.Core.Path.{_≡_, refl, sym, ap, ap₂, _∙_, subst}
+use mathlib.Core.Path.{_≡_, refl, sym, ap, _∙_, subst}
 use mathlib.Core.Bool.{Bool, true, false, _&&_}
-use mathlib.Core.List.{List, [], _∷_, _++_}
-use Prim.Native.Nat.{ℕ, zero, suc, _+_, _*_, _-_, _^_, _<_, _≤_}
+use mathlib.Core.List.{List, [], _++_}
+use Prim.Native.Nat.{ℕ, zero, suc, _+_, _-_, _^_, _<_, _≤_}
 use native.Mathlib.Omega.{arith}
 use lib.IntN.{ℤ, pos, negsuc, natAbs}
 use lib.Signed.{_<ℤ_}
@@ -10,20 +10,20 @@ use Rattle.integer.proofs.Linear.{<-parts}
 use lib.ListN.{length, drop, take, take-append-drop}
 use Rattle.expression.specs.Expression.{Kind, Op, Range}
 use Rattle.folding.specs.Sum.{Atom, Sum, termCount, atomSize, sumSize, opNumber}
-use Rattle.folding.specs.Fold.{is, again, addSums, scaleSum, applyRule, applyRules}
+use Rattle.folding.specs.Fold.{is, addSums, scaleSum, applyRules}
 use Rattle.folding.specs.Folded.{FoldedS, weight}
 use Rattle.folding.specs.Working.{smallSum, smallSums, sumsFormed}
 use Rattle.folding.proofs.Ending.{Good, step-good, run-folded}
 use Rattle.folding.proofs.Size.{size-run, size-add, size-scale}
-use Rattle.words.specs.Laid.{sumWords}
-use Rattle.words.specs.Sat.{saturate, saturateSum}
-use Rattle.words.specs.Merge.{blended}
-use Rattle.words.specs.Plus.{Sorted, blend-law}
-use Rattle.words.specs.Room.{words-enough}
-use Rattle.words.proofs.Ends.{clash}
-use Rattle.words.proofs.Okay.{ok-sat, ok-kept}
-use Rattle.rules.specs.Outcome.{maxTerms, outcomeRoom, rulesRoom, NewOp, NewSum, Applies, Rewrites}
-use Rattle.rules.specs.Rewriting.{Judges, Written, Settled, Settles, Holds, Joins}
+use Rattle.words.specs.Words.{sumWords}
+use Rattle.words.specs.Saturated.{saturateSum}
+use Rattle.words.specs.Merged.{blended, Sorted}
+use Rattle.words.proofs.Blended.{blend-law}
+use Rattle.words.proofs.Room.{words-enough}
+use Rattle.words.proofs.Tests.{clash}
+use Rattle.words.proofs.SmallSums.{ok-sat, ok-kept}
+use Rattle.rules.specs.Outcome.{maxTerms, outcomeRoom, rulesRoom, NewOp, Applies, Rewrites}
+use Rattle.rules.specs.Rewriting.{Judges, Settled, Settles, Holds, Joins}
 use Rattle.rules.specs.declared.Applied.the-variants as A
 use Rattle.rules.specs.declared.Again.{Again}
 use Rattle.rules.proofs.Standing.{sum-rest, part-stands, kept-part, kept-front}

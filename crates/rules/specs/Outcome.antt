@@ -13,8 +13,8 @@ use Rattle.folding.specs.Sum.{Sum, termCount, sumSize, opNumber}
 use Rattle.folding.specs.Fold.{is, again, divisorsTried, keepsAll, applyRule, applyRules}
 use Rattle.folding.specs.Working.{smallSum, smallSums, restsTried, sumsFormed}
 use Rattle.folding.specs.Folded.{FoldedS, weight, flag}
-use Rattle.words.specs.Laid.{sumWords}
-use Rattle.words.specs.Sat.{saturateSum}
+use Rattle.words.specs.Words.{sumWords}
+use Rattle.words.specs.Saturated.{saturateSum}
 use Rattle.rules.specs.declared.Applied.{Applied}
 use Rattle.rules.specs.declared.Applied.the-variants as A
 

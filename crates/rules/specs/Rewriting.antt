@@ -8,8 +8,8 @@ use lib.ListN.{length, drop, take}
 use Rattle.expression.specs.Expression.{Kind, Range}
 use Rattle.folding.specs.Sum.{Sum, termCount}
 use Rattle.folding.specs.Working.{smallSum}
-use Rattle.words.specs.Laid.{sumWords}
-use Rattle.words.specs.Merge.{blended}
+use Rattle.words.specs.Words.{sumWords}
+use Rattle.words.specs.Merged.{blended}
 use Rattle.rules.specs.Outcome.{maxTerms}
 
 -- whether the sum of n terms at p keeps the limits

@@ -16,8 +16,8 @@ use Rattle.folding.specs.Sum.{Atom, Sum, termCount, sumSize, opNumber}
 use Rattle.folding.specs.Fold.{Step, is, again, partR, oneQuotient, quotientOf, divisorsTried, keepsAll}
 use Rattle.folding.specs.Working.{smallSum}
 use Rattle.folding.specs.Folded.{FoldedS}
-use Rattle.words.specs.Laid.{sumWords}
-use Rattle.words.specs.Sat.{saturateSum, shifted}
+use Rattle.words.specs.Words.{sumWords}
+use Rattle.words.specs.Saturated.{saturateSum, shifted}
 use Rattle.rules.specs.Outcome.{outcomeRoom, Safe}
 use Rattle.rules.specs.declared.Again.{Again}
 use Rattle.rules.specs.declared.Applied.{Applied}

@@ -123,7 +123,7 @@ fn nested_divisor(op: usize, w: &[i64], p: usize, n: usize, c: i64) -> i64
     if n != 1 {
         return 0;
     }
-    if words::nat(w, p) != 3 {
+    if words::magnitude_at(w, p) != 3 {
         return 0;
     }
     let q = words::skip_atom(w, p);
@@ -281,7 +281,7 @@ fn rule4(op: usize, w: &[i64], p: usize, n: usize, c: i64, out: &mut [i64]) -> A
     if d == 0 {
         return stays(op, w, p, n, c, out);
     }
-    let k = words::nat(w, words::forward(w, p, 2));
+    let k = words::magnitude_at(w, words::forward(w, p, 2));
     if MAX_TERMS < k {
         return Applied::Passed;
     }

@@ -15,9 +15,10 @@ use Rattle.expression.specs.declared.Leaf.the-variants as L
 use Rattle.folding.specs.Sum.{Atom, Sum, termCount, kindNumber}
 use Rattle.folding.specs.Fold.{foldSum}
 use Rattle.folding.proofs.Size.{size-fold}
-use Rattle.words.specs.Laid.{atomWords, termWords, sumWords, constantOf}
-use Rattle.words.specs.Sat.{saturateSum, sat-in}
-use Rattle.words.specs.Post.{Puts}
+use Rattle.words.specs.Words.{atomWords, termWords, sumWords, constantOf}
+use Rattle.words.specs.Saturated.{saturateSum}
+use Rattle.words.proofs.Saturated.{sat-in}
+use Rattle.words.specs.Contracts.{Puts}
 use Rattle.tree_sum.specs.declared.TreeSum.{TreeSum}
 use Rattle.tree_sum.specs.Trees.{Keeps, Written, FoldsLeaf}
 use Rattle.tree_sum.proofs.Formed.{working-leaf}

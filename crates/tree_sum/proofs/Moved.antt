@@ -15,12 +15,12 @@ use Rattle.folding.specs.Folded.{FoldedS, weight}
 use Rattle.folding.specs.Working.{smallSum}
 use Rattle.folding.proofs.Ending.{flag-le, weight-enough}
 use Rattle.folding.proofs.Size.{size-add, size-scale}
-use Rattle.words.specs.Laid.{sumWords}
-use Rattle.words.specs.Sat.{saturateSum, scaled}
-use Rattle.words.specs.Merge.{blended}
-use Rattle.words.specs.Post.{Puts, Makes, Makes2, Reckons}
-use Rattle.words.proofs.Okay.{ok-sat, ok-kept}
-use Rattle.words.proofs.Ends.{clash}
+use Rattle.words.specs.Words.{sumWords}
+use Rattle.words.specs.Saturated.{saturateSum, scaled}
+use Rattle.words.specs.Merged.{blended}
+use Rattle.words.specs.Contracts.{Puts, Makes, Merges, Reckons}
+use Rattle.words.proofs.SmallSums.{ok-sat, ok-kept}
+use Rattle.words.proofs.Tests.{clash}
 use Rattle.rules.specs.Outcome.{maxTerms, rulesRoom, Rewrites}
 use Rattle.tree_sum.specs.declared.TreeSum.{TreeSum}
 use Rattle.tree_sum.specs.Trees.{noSum, treeFuel, wordsRoom, divisionRoom, Rooms, Inside, PlacedTree, Stands, Holds, Written, Keeps, ScalesSum, DividesSum, AddsSums}
@@ -96,7 +96,7 @@ unfolding termCount sumSize
 count-size (Sum.const k) = omega arith
 count-size (Sum.term c a t) = omega (arith, count-size t, atom-some a)
 
-module _ (b a : TreeSum) (x y y' : List ℤ) (p m end : ℕ) (I : Inside x p b) (J : Inside x (b .end) a) (O : Rooms x y p) (M : Makes2 (blended (pos 1)) x (b .end) (a .terms) x p (b .terms) y y' 0 m end) where
+module _ (b a : TreeSum) (x y y' : List ℤ) (p m end : ℕ) (I : Inside x p b) (J : Inside x (b .end) a) (O : Rooms x y p) (M : Merges (blended (pos 1)) x (b .end) (a .terms) x p (b .terms) y y' 0 m end) where
   both-made : (β : Kind → ℕ → Range) (t u : Sum) → FoldedS β t → FoldedS β u → smallSum β u ≡ true → Stands β u x p b → Stands β t x (b .end) a → Written β (addSums t u) y y' m end
   both-made β t u f g k S R =
       let Q = M .made β t u (drop (a .end) x) (drop (b .end) x) (R .counted) (S .counted) (with-rest β t x (b .end) (a .end) (J .low) (J .high) (R .standing)) (with-rest β u x p (b .end) (I .low) (I .high) (S .standing)) in

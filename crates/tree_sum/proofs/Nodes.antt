@@ -17,7 +17,7 @@ use Rattle.folding.specs.Folded.{FoldedS}
 use Rattle.folding.specs.Working.{smallWorking}
 use Rattle.folding.proofs.Ending.{weight-enough}
 use Rattle.folding.proofs.Size.{size-fold, run-same}
-use Rattle.words.proofs.Ends.{clash}
+use Rattle.words.proofs.Tests.{clash}
 use Rattle.rules.specs.Outcome.{maxTerms}
 use Rattle.tree_sum.specs.declared.TreeSum.{TreeSum}
 use Rattle.tree_sum.specs.Trees.{noSum, treeFuel, treeRoom, scratchRoom, Inside, Stands, Folds, ScalesSum, DividesSum, AddsSums, FoldsOne, FoldsSum}

@@ -16,7 +16,7 @@ use Rattle.expression.specs.declared.One.{One}
 use Rattle.folding.specs.Fold.{foldSum}
 use Rattle.folding.proofs.Ending.{fold-folded}
 use Rattle.folding.proofs.Size.{size-fold}
-use Rattle.words.specs.Room.{words-enough}
+use Rattle.words.proofs.Room.{words-enough}
 use Rattle.tree_sum.specs.declared.TreeSum.{TreeSum}
 use Rattle.tree_sum.specs.Trees.{noSum, treeRoom, scratchRoom, Rooms, Inside, Placed, Folds, FoldsLeaf, FoldsOne, FoldsSum, TreesBefore, FoldsTree}
 use Rattle.tree_sum.proofs.Formed.{over-one, over-first, over-second}

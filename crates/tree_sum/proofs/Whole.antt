@@ -13,14 +13,15 @@ use Rattle.folding.specs.Fold.{consTerm, addSums, scaleSum}
 use Rattle.folding.specs.Folded.{FoldedS}
 use Rattle.folding.specs.Working.{smallSum}
 use Rattle.folding.proofs.Divisors.{one-l}
-use Rattle.words.specs.Laid.{termWords, sumWords, constantOf}
-use Rattle.words.specs.Sat.{saturateSum}
-use Rattle.words.specs.Merge.{blended, cons-more}
-use Rattle.words.specs.Plus.{Sorted, Kept, blend-law}
-use Rattle.words.specs.Post.{Puts}
-use Rattle.words.specs.Room.{words-enough}
-use Rattle.words.proofs.Make.{laidT-rest}
-use Rattle.words.proofs.Okay.{ok-kept}
+use Rattle.words.specs.Words.{termWords, sumWords, constantOf}
+use Rattle.words.specs.Saturated.{saturateSum}
+use Rattle.words.specs.Merged.{blended, Sorted, Kept}
+use Rattle.words.proofs.Merged.{cons-more}
+use Rattle.words.proofs.Blended.{blend-law}
+use Rattle.words.specs.Contracts.{Puts}
+use Rattle.words.proofs.Room.{words-enough}
+use Rattle.words.proofs.TermByTerm.{terms-rest}
+use Rattle.words.proofs.SmallSums.{ok-kept}
 
 -- ---- words
 
@@ -28,9 +29,9 @@ use Rattle.words.proofs.Okay.{ok-kept}
 pub sum-rest : (β : Kind → ℕ → Range) (t : Sum) (r : List ℤ) → sumWords β t [] ++ r ≡ sumWords β t r
 unfolding sumWords
 sum-rest β t r =
-    ap (λ (l : List ℤ). l ++ r) (laidT-rest β t (constantOf t ∷ []))
+    ap (λ (l : List ℤ). l ++ r) (terms-rest β t (constantOf t ∷ []))
     ∙ append-assoc (termWords β t []) (constantOf t ∷ []) r
-    ∙ sym (laidT-rest β t (constantOf t ∷ r))
+    ∙ sym (terms-rest β t (constantOf t ∷ r))
 
 -- what stands up to a place stands before the rest
 pub with-rest : (β : Kind → ℕ → Range) (t : Sum) (x : List ℤ) (p e : ℕ) → p ≤ e → e ≤ length x → drop p (take e x) ≡ sumWords β t [] → drop p x ≡ sumWords β t (drop e x)

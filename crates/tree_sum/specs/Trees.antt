@@ -15,8 +15,8 @@ use Rattle.folding.specs.Sum.{Sum, termCount, sumSize, opNumber}
 use Rattle.folding.specs.Fold.{addSums, scaleSum, applyRules, foldSum}
 use Rattle.folding.specs.Working.{smallSum, smallSums, sumsFormed, smallWorking}
 use Rattle.folding.specs.Folded.{FoldedS}
-use Rattle.words.specs.Laid.{sumWords}
-use Rattle.words.specs.Sat.{saturateSum}
+use Rattle.words.specs.Words.{sumWords}
+use Rattle.words.specs.Saturated.{saturateSum}
 use Rattle.rules.specs.Outcome.{maxTerms, outcomeRoom}
 use Rattle.tree_sum.specs.declared.TreeSum.{TreeSum}
 

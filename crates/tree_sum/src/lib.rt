@@ -12,7 +12,7 @@ ghost use Rattle.expression.specs.Node.{maxVariables, Divisor, SoundLeaf, Sound
 ghost use Rattle.expression.specs.Value.{bounds};
 ghost use Rattle.expression.specs.Decode.{leafExpr};
 ghost use Rattle.folding.specs.Fold.{foldSum};
-ghost use Rattle.words.specs.Post.{Puts};
+ghost use Rattle.words.specs.Contracts.{Puts};
 ghost use Rattle.rules.specs.Outcome.{maxTerms};
 ghost use Rattle.tree_sum.specs.Trees.{noSum, Rooms, Inside, Keeps, Written, ScalesSum, DividesSum, AddsSums, FoldsLeaf, FoldsOne, FoldsSum, FoldsTree, NodesIn};
 

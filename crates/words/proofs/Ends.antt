@@ -1,34 +1,25 @@
 -- Ranges of sums, and the limits. Assumes nothing.
-use mathlib.Core.Path.{_≡_, refl, sym, ap, ap₂, _∙_, subst}
-use mathlib.Core.Bool.{Bool, true, false, not, cond, _&&_, and-assoc, and-self}
+use mathlib.Core.Path.{_≡_, refl, sym, ap, ap₂, _∙_}
+use mathlib.Core.Bool.{Bool, true, false, cond, _&&_, and-assoc, and-self}
 use mathlib.Core.List.{List, [], _∷_, _++_, append-assoc}
-use Prim.Native.Nat.{ℕ, zero, suc, _+_, _-_, _<_, _≤_}
+use Prim.Native.Nat.{ℕ, _+_, _-_, _≤_}
 use native.Mathlib.Omega.{arith}
-use lib.IntN.{ℤ, pos, negsuc, natAbs, _+ℤ_, _*ℤ_, +ℤ-assoc}
-use lib.ListN.{length, drop, take, getD, length-drop, length-append}
-use lib.Seq.{drop-drop, getD-drop, getD-append-seam, getD-append-add}
+use lib.IntN.{ℤ, pos, negsuc, _+ℤ_, _*ℤ_, +ℤ-assoc}
+use lib.ListN.{length, drop, getD, length-drop, length-append}
+use lib.Seq.{getD-drop, getD-append-seam, getD-append-add}
 use lib.Signed.{ltZ}
 use borrow.Author.Tests.{le-ltb}
 use Rattle.folding.specs.Sum.{Atom, Sum, termCount, kindNumber, opNumber, atomRange, sumRange}
 use Rattle.folding.specs.Working.{smallFrom}
 use Rattle.folding.proofs.Divisors.{one-l}
-use Rattle.words.specs.Laid.{atomWords, termWords, sumWords, constantOf, word-is}
-use Rattle.words.specs.Sat.{saturate, overLimit}
-use Rattle.words.specs.Post.{Forward, SkipsA, Two, Steps, Reckons}
-use Rattle.words.proofs.Over.{ahead}
-use Rattle.words.proofs.Make.{laidA-rest, laidT-rest}
-use Rattle.expression.specs.Expression.{Kind, Op, Range, addRange, mulRange, isSmall, smallRange}
-
-pub flip-t : (b : Bool) → not b ≡ true → b ≡ false
-flip-t true e = sym e
-flip-t false e = refl
-
-pub flip-f : (b : Bool) → not b ≡ false → b ≡ true
-flip-f true e = refl
-flip-f false e = sym e
-
-pub clash : {X : Type 0} → false ≡ true → X
-clash e = let z : _≡_ {A = ℕ} 0 1 = cc in absurd (omega arith)
+use Rattle.words.proofs.Tests.{clash}
+use Rattle.words.specs.Words.{atomWords, termWords, sumWords, constantOf}
+use Rattle.words.proofs.Reading.{word-is}
+use Rattle.words.specs.Saturated.{saturate, overLimit}
+use Rattle.words.specs.Contracts.{Forward, SkipsAtom, AddsEnds, AddsTerm, Reckons}
+use Rattle.words.proofs.Skipping.{ahead}
+use Rattle.words.proofs.TermByTerm.{terms-rest}
+use Rattle.expression.specs.Expression.{Kind, Range, addRange, mulRange, isSmall, smallRange}
 
 pub sat-ok : (z : ℤ) → isSmall (saturate z) ≡ isSmall z
 unfolding saturate
@@ -42,11 +33,11 @@ pub sat-kept : (z : ℤ) → isSmall z ≡ true → saturate z ≡ z
 unfolding saturate
 sat-kept z e = ap (λ (b : Bool). cond b z overLimit) e
 
-pub refused : (c x y lo hi l h : ℤ) → (isSmall c && ((isSmall x && isSmall y) && (isSmall (lo +ℤ x) && isSmall (hi +ℤ y)))) ≡ false → Two c x y lo hi false l h
+pub refused : (c x y lo hi l h : ℤ) → (isSmall c && ((isSmall x && isSmall y) && (isSmall (lo +ℤ x) && isSmall (hi +ℤ y)))) ≡ false → AddsEnds c x y lo hi false l h
 refused c x y lo hi l h e = record { is = sym e; low = λ f. clash f; high = λ f. clash f }
 
 -- both ends of a term are multiplied, and the multiples are kept or pass the limit
-turn : (c x y lo hi : ℤ) (ok : Bool) (l h : ℤ) → Two c (saturate x) (saturate y) lo hi ok l h
+turn : (c x y lo hi : ℤ) (ok : Bool) (l h : ℤ) → AddsEnds c (saturate x) (saturate y) lo hi ok l h
     → (ok ≡ (isSmall c && ((isSmall x && isSmall y) && (isSmall (lo +ℤ x) && isSmall (hi +ℤ y))))) × ((ok ≡ true → l ≡ lo +ℤ x) × (ok ≡ true → h ≡ hi +ℤ y))
 turn c x y lo hi ok l h T = (eqn, ((λ e. T .low e ∙ ap (λ (z : ℤ). lo +ℤ z) (sat-kept x (parts e .0)), λ e. T .high e ∙ ap (λ (z : ℤ). hi +ℤ z) (sat-kept y (parts e .1)))))
   where
@@ -67,29 +58,29 @@ turn c x y lo hi ok l h T = (eqn, ((λ e. T .low e ∙ ap (λ (z : ℤ). lo +ℤ
     parts : ok ≡ true → (isSmall x ≡ true) × (isSmall y ≡ true)
     parts e = pick (isSmall c) (isSmall x) (isSmall y) (isSmall (lo +ℤ x) && isSmall (hi +ℤ y)) (sym eqn ∙ e)
 
-pub up-term : (c a b lo hi : ℤ) (ok : Bool) (l h : ℤ) → ltZ c (pos 0) ≡ false → Two c (saturate (c *ℤ a)) (saturate (c *ℤ b)) lo hi ok l h → Steps c a b lo hi ok l h
+pub up-term : (c a b lo hi : ℤ) (ok : Bool) (l h : ℤ) → ltZ c (pos 0) ≡ false → AddsEnds c (saturate (c *ℤ a)) (saturate (c *ℤ b)) lo hi ok l h → AddsTerm c a b lo hi ok l h
 unfolding mulRange addRange
 up-term (pos n) a b lo hi ok l h e T = let r = turn (pos n) (pos n *ℤ a) (pos n *ℤ b) lo hi ok l h T in record { is = r .0; low = r .1 .0; high = r .1 .1 }
 up-term (negsuc n) a b lo hi ok l h e T = clash (sym e)
 
-pub down-term : (c a b lo hi : ℤ) (ok : Bool) (l h : ℤ) → ltZ c (pos 0) ≡ true → Two c (saturate (c *ℤ b)) (saturate (c *ℤ a)) lo hi ok l h → Steps c a b lo hi ok l h
+pub down-term : (c a b lo hi : ℤ) (ok : Bool) (l h : ℤ) → ltZ c (pos 0) ≡ true → AddsEnds c (saturate (c *ℤ b)) (saturate (c *ℤ a)) lo hi ok l h → AddsTerm c a b lo hi ok l h
 unfolding mulRange addRange
 down-term (pos n) a b lo hi ok l h e T = clash (sym (le-ltb n 0 (omega arith)) ∙ e)
 down-term (negsuc n) a b lo hi ok l h e T = let r = turn (negsuc n) (negsuc n *ℤ b) (negsuc n *ℤ a) lo hi ok l h T in record { is = r .0; low = r .1 .0; high = r .1 .1 }
 
 -- an atom's last two words
-frontA : (Kind → ℕ → Range) → Atom → List ℤ
-frontA β (Atom.var k n) = pos (kindNumber k) ∷ pos n ∷ []
-frontA β (Atom.op o t c) = pos (opNumber o) ∷ pos c ∷ pos (termCount t) ∷ termWords β t (constantOf t ∷ [])
+atomFront : (Kind → ℕ → Range) → Atom → List ℤ
+atomFront β (Atom.var k n) = pos (kindNumber k) ∷ pos n ∷ []
+atomFront β (Atom.op o t c) = pos (opNumber o) ∷ pos c ∷ pos (termCount t) ∷ termWords β t (constantOf t ∷ [])
 
-ends-words : (β : Kind → ℕ → Range) (a : Atom) (x : List ℤ) → atomWords β a x ≡ frontA β a ++ (atomRange a β .lo ∷ atomRange a β .hi ∷ x)
-unfolding atomWords frontA atomRange
+ends-words : (β : Kind → ℕ → Range) (a : Atom) (x : List ℤ) → atomWords β a x ≡ atomFront β a ++ (atomRange a β .lo ∷ atomRange a β .hi ∷ x)
+unfolding atomWords atomFront atomRange
 ends-words β (Atom.var k n) x = refl
 ends-words β (Atom.op o t c) x =
     let z = atomRange (Atom.op o t c) β in
     ap (λ (l : List ℤ). pos (opNumber o) ∷ pos c ∷ pos (termCount t) ∷ l)
-    (laidT-rest β t (constantOf t ∷ z .lo ∷ z .hi ∷ x) ∙ sym (append-assoc (termWords β t []) (constantOf t ∷ []) (z .lo ∷ z .hi ∷ x))
-    ∙ ap (λ (l : List ℤ). l ++ (z .lo ∷ z .hi ∷ x)) (sym (laidT-rest β t (constantOf t ∷ []))))
+    (terms-rest β t (constantOf t ∷ z .lo ∷ z .hi ∷ x) ∙ sym (append-assoc (termWords β t []) (constantOf t ∷ []) (z .lo ∷ z .hi ∷ x))
+    ∙ ap (λ (l : List ℤ). l ++ (z .lo ∷ z .hi ∷ x)) (sym (terms-rest β t (constantOf t ∷ []))))
 
 last-two : (w : List ℤ) (p q : ℕ) (f : List ℤ) (u v : ℤ) (x : List ℤ) → p ≤ q → q ≤ length w → drop p w ≡ f ++ (u ∷ v ∷ x) → drop q w ≡ x
     → (getD w (q - 2) (pos 0) ≡ u) × (getD w (q - 1) (pos 0) ≡ v)
@@ -100,9 +91,9 @@ last-two w p q f u v x h k e g =
       ap (λ (n : ℕ). getD w n (pos 0)) n1 ∙ sym (getD-drop p w (length f + 1) (pos 0)) ∙ ap (λ (l : List ℤ). getD l (length f + 1) (pos 0)) e ∙ getD-append-add f (u ∷ v ∷ x) 1 (pos 0),
     )
 
-pub atom-range : (β : Kind → ℕ → Range) (w : List ℤ) (p q : ℕ) (a : Atom) (x : List ℤ) → SkipsA w p q → drop p w ≡ atomWords β a x
+pub atom-range : (β : Kind → ℕ → Range) (w : List ℤ) (p q : ℕ) (a : Atom) (x : List ℤ) → SkipsAtom w p q → drop p w ≡ atomWords β a x
     → (getD w (q - 2) (pos 0) ≡ atomRange a β .lo) × (getD w (q - 1) (pos 0) ≡ atomRange a β .hi)
-atom-range β w p q a x s e = last-two w p q (frontA β a) (atomRange a β .lo) (atomRange a β .hi) x (s .low) (s .high) (e ∙ ends-words β a x) (s .past β a x e)
+atom-range β w p q a x s e = last-two w p q (atomFront β a) (atomRange a β .lo) (atomRange a β .hi) x (s .low) (s .high) (e ∙ ends-words β a x) (s .past β a x e)
 
 same-range : (β : Kind → ℕ → Range) (t : Sum) (lo hi : ℤ) (P : Range) → smallFrom β (record { lo = lo +ℤ P .lo; hi = hi +ℤ P .hi }) t ≡ smallFrom β (addRange (record { lo = lo; hi = hi }) P) t
 unfolding addRange
@@ -117,7 +108,7 @@ unfolding addRange
 sum-hi P Q = refl
 
 module _ (w : List ℤ) (p n : ℕ) (lo hi : ℤ) where
-  pub of-last : (ok : Bool) (l h : ℤ) → n ≡ 0 → Steps (pos 1) (getD w p (pos 0)) (getD w p (pos 0)) lo hi ok l h → Reckons w p n lo hi ok l h
+  pub of-last : (ok : Bool) (l h : ℤ) → n ≡ 0 → AddsTerm (pos 1) (getD w p (pos 0)) (getD w p (pos 0)) lo hi ok l h → Reckons w p n lo hi ok l h
   unfolding termCount sumWords termWords constantOf smallFrom addRange mulRange sumRange
   of-last ok l h z S = record { is = go; ends = en }
     where
@@ -130,8 +121,8 @@ module _ (w : List ℤ) (p n : ℕ) (lo hi : ℤ) where
       en β (Sum.const k) x f e y = let g = one-l (getD w p (pos 0)) ∙ word-is w p k x e in (S .low y ∙ ap (λ (z : ℤ). lo +ℤ z) g, S .high y ∙ ap (λ (z : ℤ). hi +ℤ z) g)
       en β (Sum.term c a t) x f e y = absurd (omega arith)
 
-  module _ (q b : ℕ) (nz : n ≡ 0 → ⊥) (s : SkipsA w p q) (sf : Forward w q 1 b) where
-    pub of-refused : (l h l' h' : ℤ) → Steps (getD w q (pos 0)) (getD w (q - 2) (pos 0)) (getD w (q - 1) (pos 0)) lo hi false l h → Reckons w p n lo hi false l' h'
+  module _ (q b : ℕ) (nz : n ≡ 0 → ⊥) (s : SkipsAtom w p q) (sf : Forward w q 1 b) where
+    pub of-refused : (l h l' h' : ℤ) → AddsTerm (getD w q (pos 0)) (getD w (q - 2) (pos 0)) (getD w (q - 1) (pos 0)) lo hi false l h → Reckons w p n lo hi false l' h'
     unfolding termCount sumWords termWords constantOf smallFrom
     of-refused l h l' h' S = record { is = go; ends = λ β t x f e y. clash y }
       where
@@ -144,7 +135,7 @@ module _ (w : List ℤ) (p n : ℕ) (lo hi : ℤ) where
             let P = mulRange c (atomRange a β) in
             ap (λ (z : Bool). z && smallFrom β (addRange (record { lo = lo; hi = hi }) P) t) (y ∙ sym (and-assoc (isSmall c) (smallRange P) (smallRange (addRange (record { lo = lo; hi = hi }) P))))
 
-    pub of-term : (l h : ℤ) (ok : Bool) (l' h' : ℤ) → Steps (getD w q (pos 0)) (getD w (q - 2) (pos 0)) (getD w (q - 1) (pos 0)) lo hi true l h → Reckons w b (n - 1) l h ok l' h' → Reckons w p n lo hi ok l' h'
+    pub of-term : (l h : ℤ) (ok : Bool) (l' h' : ℤ) → AddsTerm (getD w q (pos 0)) (getD w (q - 2) (pos 0)) (getD w (q - 1) (pos 0)) lo hi true l h → Reckons w b (n - 1) l h ok l' h' → Reckons w p n lo hi ok l' h'
     unfolding termCount sumWords termWords constantOf smallFrom sumRange
     of-term l h ok l' h' S M = record { is = go; ends = en }
       where

@@ -1,14 +1,14 @@
 -- Numbers by sign and magnitude. Assumes nothing.
-use mathlib.Core.Path.{_≡_, refl, sym, ap, ap₂, _∙_, subst}
-use mathlib.Core.Bool.{Bool, true, false, not, Bool·beq}
+use mathlib.Core.Path.{_≡_, refl}
+use mathlib.Core.Bool.{Bool, true, false, not}
 use Prim.Native.Nat.{ℕ, zero, suc, _+_, _-_, _*_, _/_, _<_, _≤_}
 use native.Mathlib.Omega.{arith}
 use native.Mathlib.Nat.{div-lt-iff-lt-mul, le-div-iff-mul-le}
 use borrow.Author.Tests.{le-ltb}
-use lib.IntN.{ℤ, pos, negsuc, negℤ, natAbs, _+ℤ_, _*ℤ_, negℤ-+ℤ}
+use lib.IntN.{ℤ, pos, negsuc, negℤ, natAbs, _+ℤ_, negℤ-+ℤ}
 use lib.Signed.{ltZ}
 use Rattle.integer.specs.Exact.{signOf}
-use Rattle.integer.proofs.Linear.{up, dn, same, add-parts, up-neg, dn-neg, abs-parts}
+use Rattle.integer.proofs.Linear.{same, add-parts, up-neg, dn-neg, abs-parts}
 
 pub sign-abs : (e : ℤ) → signOf (ltZ e (pos 0)) (natAbs e) ≡ e
 sign-abs (pos n) = rw (le-ltb n 0 (omega arith)) refl
@@ -42,15 +42,3 @@ far (pos m) (pos n) h k = omega arith
 far (pos m) (negsuc n) h k = omega (arith, add-parts (pos m) (negsuc n), abs-parts (pos m +ℤ negsuc n))
 far (negsuc m) (pos n) h k = omega (arith, add-parts (negsuc m) (pos n), abs-parts (negsuc m +ℤ pos n))
 far (negsuc m) (negsuc n) h k = omega arith
-
-pub beq-true : (a b : Bool) → Bool·beq a b ≡ true → a ≡ b
-beq-true true true e = refl
-beq-true true false e = sym e
-beq-true false true e = e
-beq-true false false e = refl
-
-pub beq-false : (a b : Bool) → Bool·beq a b ≡ false → b ≡ not a
-beq-false true true e = e
-beq-false true false e = refl
-beq-false false true e = refl
-beq-false false false e = sym e

@@ -1,10 +1,5 @@
-pub mod Order
-pub mod Link
-pub mod Laid
-pub mod Post
-pub mod Sat
-pub mod Laidorder
-pub mod Merge
-pub mod Part
-pub mod Plus
-pub mod Room
+-- The definitions that the contracts cite.
+pub mod Words
+pub mod Saturated
+pub mod Merged
+pub mod Contracts

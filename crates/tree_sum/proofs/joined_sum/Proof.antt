@@ -1,7 +1,7 @@
 -- `tree_sum::joined_sum` meets its contract. Assumes nothing.
 use borrow.Author.Needs.{needs}
 use mathlib.Core.Path.{sym, _∙_}
-use Rattle.words.proofs.Ends.{clash}
+use Rattle.words.proofs.Tests.{clash}
 use Rattle.tree_sum.proofs.Nodes.{sum-added, sum-over}
 use Rattle.tree_sum.proofs.joined_sum.Statement.{statement}
 use Rattle.tree_sum.proofs.joined_sum.Tie as tie

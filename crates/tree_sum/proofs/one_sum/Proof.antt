@@ -1,8 +1,8 @@
 -- `tree_sum::one_sum` meets its contract. Assumes nothing.
+use borrow.Author.Tests.{not-true, not-false}
 use borrow.Author.Needs.{needs, sfits-of}
 use native.Mathlib.Omega.{arith}
 use mir.Facts.{toZ-ofZ}
-use Rattle.words.proofs.Ends.{flip-t, flip-f}
 use Rattle.tree_sum.proofs.Nodes.{one-over, one-product, one-floordiv, one-modulo}
 use Rattle.tree_sum.proofs.one_sum.Statement.{statement}
 use Rattle.tree_sum.proofs.one_sum.Tie as tie
@@ -10,7 +10,7 @@ use Rattle.tree_sum.proofs.one_sum.Tie as tie
 returns : tie.Need-returns
 returns c =
     let s = c .before in
-    one-over (s .args .one) (s .args .a) (s .args .x .now) (s .args .y .now) (s .args .p) (flip-t (s .args .a .small) (c .if1 .taken)) (s .pre .1)
+    one-over (s .args .one) (s .args .a) (s .args .x .now) (s .args .y .now) (s .args .p) (not-true (s .args .a .small) (c .if1 .taken)) (s .pre .1)
 
 enum-known-one : tie.Need-enum-known-one
 enum-known-one c = search needs
@@ -32,7 +32,7 @@ returns-2 c =
     let l = n .before .before in
     let s = l .before in
     let M = rw (toZ-ofZ (sfits-of (k .known-told .given .0 .1))) at (m .scaled-sum .ensures) in
-    rw (n .one .given .1) (one-product (s .args .a) (s .args .x .now) _ _ _ (s .args .p) _ (n .one .given .0 .0) (flip-f (s .args .a .small) (l .if1 .left)) M)
+    rw (n .one .given .1) (one-product (s .args .a) (s .args .x .now) _ _ _ (s .args .p) _ (n .one .given .0 .0) (not-false (s .args .a .small) (l .if1 .left)) M)
 
 enum-known-one-2 : tie.Need-enum-known-one-2
 enum-known-one-2 c = search needs
@@ -59,7 +59,7 @@ returns-3 c =
     let s = l .before in
     let M = rw (toZ-ofZ (sfits-of (k .known-told2 .given .0 .1))) at (m .divided-sum .ensures) in
     let D = rw (n .one2 .given .1) at (s .pre .0) in
-    rw (n .one2 .given .1) (one-floordiv (s .args .a) (s .args .x .now) _ _ _ (s .args .p) _ (n .one2 .given .0 .0) D (s .pre .2 .few) (flip-f (s .args .a .small) (l .if1 .left)) M)
+    rw (n .one2 .given .1) (one-floordiv (s .args .a) (s .args .x .now) _ _ _ (s .args .p) _ (n .one2 .given .0 .0) D (s .pre .2 .few) (not-false (s .args .a .small) (l .if1 .left)) M)
 
 enum-known-one-3 : tie.Need-enum-known-one-3
 enum-known-one-3 c = search needs
@@ -86,7 +86,7 @@ returns-4 c =
     let s = l .before in
     let M = rw (toZ-ofZ (sfits-of (k .known-told3 .given .0 .1))) at (m .divided-sum2 .ensures) in
     let D = rw (n .one3 .given .1) at (s .pre .0) in
-    rw (n .one3 .given .1) (one-modulo (s .args .a) (s .args .x .now) _ _ _ (s .args .p) _ (n .one3 .given .0 .0) D (s .pre .2 .few) (flip-f (s .args .a .small) (l .if1 .left)) M)
+    rw (n .one3 .given .1) (one-modulo (s .args .a) (s .args .x .now) _ _ _ (s .args .p) _ (n .one3 .given .0 .0) D (s .pre .2 .few) (not-false (s .args .a .small) (l .if1 .left)) M)
 
 pub one-sum-spec : {M : Type 1} → statement M
 one-sum-spec =

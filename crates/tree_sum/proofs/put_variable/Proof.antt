@@ -4,7 +4,7 @@ use mathlib.Core.Path.{refl}
 use native.Mathlib.Omega.{arith}
 use mir.Syntax.{w64}
 use mir.Facts.{toZ-ofZ, toZ-pos}
-use Rattle.words.proofs.Write.{both}
+use Rattle.words.proofs.Written.{both}
 use Rattle.tree_sum.proofs.put_variable.Statement.{statement}
 use Rattle.tree_sum.proofs.put_variable.Tie as tie
 

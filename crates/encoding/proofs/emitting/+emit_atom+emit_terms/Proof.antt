@@ -1,3 +1,4 @@
+-- `encoding::emitting::emit_atom` and `encoding::emitting::emit_terms` meet their contracts. Assumes nothing.
 use Prim.Native.Nat.{ℕ, _<_, _+_, _*_, _-_}
 use native.Mathlib.Omega.{arith}
 use lib.ListN.{length}
@@ -17,10 +18,10 @@ use Rattle.encoding.proofs.writing.put_coefficient.Reads as put-coeffic
 use Rattle.encoding.proofs.writing.put_constant.Reads as put-constant-reads
 use Rattle.encoding.proofs.writing.put_node.Reads as put-node-reads
 use Rattle.words.proofs.forward.Reads as forward-reads
-use Rattle.words.proofs.nat.Reads as nat-reads
+use Rattle.words.proofs.magnitude_at.Reads as magnitude-at-reads
 use Rattle.words.proofs.skip_atom.Reads as skip-atom-reads
 use Rattle.words.proofs.word.Reads as word-reads
-use Rattle.words.proofs.Over.{further}
+use Rattle.words.proofs.Skipping.{further}
 use Rattle.encoding.proofs.Stored.{room, kept, put-kept, still, kept-then}
 use Rattle.encoding.proofs.Emitted.{atom-end, terms-end, of-variable, of-op, of-constant, of-term}
 use Rattle.encoding.proofs.emitting.+emit_atom+emit_terms.{statement}
@@ -48,7 +49,7 @@ emit-terms-below t =
     and 3 emit-terms-kinds.ps (falls 3 emit-terms-kinds.ps _<_ μ-emit-terms t) emit-terms.Pre
 
 pub +emit-atom+emit-terms-spec : {M : Type 1} → statement M
-+emit-atom+emit-terms-spec = close μ-emit-atom μ-emit-terms (λ t. emit-atom-lts.spec (nat-reads.Asked, nat-reads.Learnt, forward-reads.Asked, forward-reads.Learnt, place-of-reads.Asked, place-of-reads.Learnt, put-node-reads.Asked, put-node-reads.Learnt, emit-terms-below t, emit-terms.Post, op-kind-reads.Asked, op-kind-reads.Learnt, word-reads.Asked, word-reads.Learnt)
++emit-atom+emit-terms-spec = close μ-emit-atom μ-emit-terms (λ t. emit-atom-lts.spec (magnitude-at-reads.Asked, magnitude-at-reads.Learnt, forward-reads.Asked, forward-reads.Learnt, place-of-reads.Asked, place-of-reads.Learnt, put-node-reads.Asked, put-node-reads.Learnt, emit-terms-below t, emit-terms.Post, op-kind-reads.Asked, op-kind-reads.Learnt, word-reads.Asked, word-reads.Learnt)
     (emit-atom-at t)
     emit-atom.Post
     -- returns
@@ -72,8 +73,8 @@ pub +emit-atom+emit-terms-spec : {M : Type 1} → statement M
     let s = c .before .before .before .before .before .before .before .before .before .before .before .before .before in
     let k = c .before .before .before .before .before .before in
     let u = rw (toZ-ofZ (sfits-of (k .place-of .ok))) at (c .before .before .before .put-node .ensures) in
-    let i = rw (c .before .before .before .before .before .before .before .nat2 .ensures) at (k .place-of .ensures) in
-    of-variable (s .args .w .now) _ _ _ (c .before .before .before .before .before .before .before .before .before .before .nat .ensures) (c .before .before .before .before .before .before .before .before .before .forward .ensures) (c .before .before .before .before .before .before .before .before .if2 .taken) i u)
+    let i = rw (c .before .before .before .before .before .before .before .magnitude-at2 .ensures) at (k .place-of .ensures) in
+    of-variable (s .args .w .now) _ _ _ (c .before .before .before .before .before .before .before .before .before .before .magnitude-at .ensures) (c .before .before .before .before .before .before .before .before .before .forward .ensures) (c .before .before .before .before .before .before .before .before .if2 .taken) i u)
     -- forward-requires-2
     (λ c κs. c .before .before .before .before .before .pre .1 .here)
     -- forward-requires-3
@@ -101,8 +102,8 @@ pub +emit-atom+emit-terms-spec : {M : Type 1} → statement M
     let s = c .before .before .before .before .before .before .before .before .before .before .before .before .before .before .before .before .before .before .before .before .before .before in
     let v = c .before .before .before .before in
     let u = rw (toZ-ofZ (sfits-of (v .word .ok)), v .word .ensures) at (c .before .before .before .put-node2 .ensures) in
-    of-op (s .args .w .now) _ _ _ (c .before .before .before .before .before .before .before .before .before .before .before .before .before .before .before .before .before .before .before .nat .ensures) (c .before .before .before .before .before .before .before .before .before .before .before .before .before .before .before .before .before .before .forward .ensures) _ _ _ (s .pre .1 .room) (c .before .before .before .before .before .before .before .before .before .before .before .before .before .before .before .before .before .if2 .left)
-    (c .before .before .before .before .before .before .before .before .before .before .before .before .before .before .before .before .forward2 .ensures) (c .before .before .before .before .before .before .before .before .before .before .before .before .before .before .before .forward3 .ensures) (c .before .before .before .before .before .before .before .before .before .before .before .before .before .before .nat3 .ensures) (c .before .before .before .before .before .before .before .before .before .before .before .emit-terms .ensures) (c .before .before .before .before .before .op-kind .ensures) u))
+    of-op (s .args .w .now) _ _ _ (c .before .before .before .before .before .before .before .before .before .before .before .before .before .before .before .before .before .before .before .magnitude-at .ensures) (c .before .before .before .before .before .before .before .before .before .before .before .before .before .before .before .before .before .before .forward .ensures) _ _ _ (s .pre .1 .room) (c .before .before .before .before .before .before .before .before .before .before .before .before .before .before .before .before .before .if2 .left)
+    (c .before .before .before .before .before .before .before .before .before .before .before .before .before .before .before .before .forward2 .ensures) (c .before .before .before .before .before .before .before .before .before .before .before .before .before .before .before .forward3 .ensures) (c .before .before .before .before .before .before .before .before .before .before .before .before .before .before .magnitude-at3 .ensures) (c .before .before .before .before .before .before .before .before .before .before .before .emit-terms .ensures) (c .before .before .before .before .before .op-kind .ensures) u))
     λ t. emit-terms-lts.spec (word-reads.Asked, word-reads.Learnt, put-constant-reads.Asked, put-constant-reads.Learnt, emit-atom-below t, emit-atom.Post, skip-atom-reads.Asked, skip-atom-reads.Learnt, put-coefficient-reads.Asked, put-coefficient-reads.Learnt, forward-reads.Asked, forward-reads.Learnt, emit-terms-below t, emit-terms.Post)
     (emit-terms-at t)
     emit-terms.Post

@@ -1,3 +1,4 @@
+-- `encoding::emitting::emit_sum` meets its contract. Assumes nothing.
 use borrow.Author.Needs.{needs}
 use Rattle.encoding.proofs.Emitted.{of-sum}
 use Rattle.encoding.proofs.emitting.emit_sum.Statement.{statement}
@@ -6,19 +7,15 @@ use Rattle.encoding.proofs.emitting.emit_sum.Reads as reads
 use Rattle.encoding.proofs.emitting.emit_sum.Lts as lts
 use Rattle.encoding.proofs.emitting.emit_terms.Reads as emit-terms-reads
 
--- src/emitting.rt:56:5
 emit-terms-requires : tie.Need-emit-terms-requires
 emit-terms-requires c κs = search needs
 
--- src/emitting.rt:52:1
 same-length : tie.Need-same-length
 same-length c = search needs
 
--- src/emitting.rt:52:1
 same-length-2 : tie.Need-same-length-2
 same-length-2 c = search needs
 
--- src/emitting.rt:52:1
 returns : tie.Need-returns
 returns c =
     let k = c .before .before .before in

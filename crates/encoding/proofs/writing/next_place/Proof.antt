@@ -1,18 +1,16 @@
+-- `encoding::writing::next_place` meets its contract. Assumes nothing.
 use native.Mathlib.Omega.{arith}
 use Rattle.encoding.proofs.writing.next_place.Statement.{statement}
 use Rattle.encoding.proofs.writing.next_place.Tie as tie
 use Rattle.encoding.proofs.writing.next_place.Reads as reads
 use Rattle.encoding.proofs.writing.next_place.Lts as lts
 
--- src/writing.rt:34:24
 add-result : tie.Need-add-result
 add-result c = omega arith
 
--- src/writing.rt:31:1
 returns : tie.Need-returns
 returns c = omega arith
 
--- src/writing.rt:31:1
 returns-2 : tie.Need-returns-2
 returns-2 c = omega arith
 

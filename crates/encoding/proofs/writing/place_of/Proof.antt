@@ -1,3 +1,4 @@
+-- `encoding::writing::place_of` meets its contract. Assumes nothing.
 use borrow.Author.Needs.{needs}
 use mir.Syntax.{w64}
 use mir.Facts.{toZ-pos}
@@ -8,31 +9,24 @@ use Rattle.encoding.proofs.writing.place_of.Tie as tie
 use Rattle.encoding.proofs.writing.place_of.Reads as reads
 use Rattle.encoding.proofs.writing.place_of.Lts as lts
 
--- src/writing.rt:101:20
 cast-result : tie.Need-cast-result
 cast-result c = search needs
 
--- src/writing.rt:101:13
 returns : tie.Need-returns
 returns c = of-dim _ _ _ (c .before .if1 .taken) (c .if2 .taken) (toZ-pos w64 (omega arith))
 
--- src/writing.rt:104:20
 add-result : tie.Need-add-result
 add-result c = omega arith
 
--- src/writing.rt:104:20
 cast-result-2 : tie.Need-cast-result-2
 cast-result-2 c = search needs
 
--- src/writing.rt:104:13
 returns-2 : tie.Need-returns-2
 returns-2 c = of-range _ _ _ (c .before .before .if1 .taken) (c .if3 .taken) (toZ-pos w64 (omega arith))
 
--- src/writing.rt:96:1
 returns-3 : tie.Need-returns-3
 returns-3 c = of-runtime _ _ (c .before .if2 .left) (c .if3 .left)
 
--- src/writing.rt:96:1
 returns-4 : tie.Need-returns-4
 returns-4 c = of-none _ _ (c .if1 .left)
 

@@ -1,3 +1,4 @@
+-- `encoding::writing::put_coefficient` meets its contract. Assumes nothing.
 use borrow.Author.Needs.{needs}
 use mir.Facts.{toZ-ofZ}
 use Rattle.encoding.proofs.Stored.{coefficient-alone, coefficient-joined}
@@ -8,38 +9,30 @@ use Rattle.encoding.proofs.writing.put_coefficient.Lts as lts
 use Rattle.encoding.proofs.writing.put_factor.Reads as put-factor-reads
 use Rattle.encoding.proofs.writing.put_node.Reads as put-node-reads
 
--- src/writing.rt:67:9
 put-factor-requires : tie.Need-put-factor-requires
 put-factor-requires c κs = search needs
 
--- src/writing.rt:69:9
 same-length : tie.Need-same-length
 same-length c = search needs
 
--- src/writing.rt:69:9
 same-length-2 : tie.Need-same-length-2
 same-length-2 c = search needs
 
--- src/writing.rt:69:9
 returns : tie.Need-returns
 returns c =
     let k = c .before .before .before .before in
     let s = c .before .before .before .before .before .before .before .before in
     coefficient-alone _ (s .args .coefficient) (c .if1 .taken) (rw (toZ-ofZ (s .fits .coefficient)) at (k .put-factor .ensures))
 
--- src/writing.rt:71:5
 put-node-requires : tie.Need-put-node-requires
 put-node-requires c κs = search needs
 
--- src/writing.rt:57:1
 same-length-3 : tie.Need-same-length-3
 same-length-3 c = search needs
 
--- src/writing.rt:57:1
 same-length-4 : tie.Need-same-length-4
 same-length-4 c = search needs
 
--- src/writing.rt:57:1
 returns-2 : tie.Need-returns-2
 returns-2 c =
     let x = c .before .before .before .before .before .before in

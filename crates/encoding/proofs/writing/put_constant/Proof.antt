@@ -1,3 +1,4 @@
+-- `encoding::writing::put_constant` meets its contract. Assumes nothing.
 use borrow.Author.Needs.{needs}
 use mathlib.Core.Path.{sym, ap, _∙_}
 use mir.Syntax.{w64}
@@ -10,47 +11,37 @@ use Rattle.encoding.proofs.writing.put_constant.Reads as reads
 use Rattle.encoding.proofs.writing.put_constant.Lts as lts
 use Rattle.encoding.proofs.writing.put_node.Reads as put-node-reads
 
--- src/writing.rt:86:9
 put-node-requires : tie.Need-put-node-requires
 put-node-requires c κs = search needs
 
--- src/writing.rt:86:9
 same-length : tie.Need-same-length
 same-length c = search needs
 
--- src/writing.rt:86:9
 same-length-2 : tie.Need-same-length-2
 same-length-2 c = search needs
 
--- src/writing.rt:86:9
 returns : tie.Need-returns
 returns c =
     let s = c .before .before .before .before .before .before .before .before in
     constant-alone _ (s .args .constant) (c .before .before .before .before .before .before .if1 .taken) (rw (toZ-ofZ (s .fits .constant)) at (c .before .before .before .put-node .ensures))
 
--- src/writing.rt:89:9
 returns-2 : tie.Need-returns-2
 returns-2 c =
     let s = c .before .before .before in
     constant-zero _ (s .args .constant) (c .before .if1 .left) (sym (toZ-ofZ (s .fits .constant)) ∙ ap (toZ w64) (c .if2 .taken)) (s .pre)
 
--- src/writing.rt:91:9
 put-node-requires-2 : tie.Need-put-node-requires-2
 put-node-requires-2 c κs = search needs
 
--- src/writing.rt:92:5
 put-node-requires-3 : tie.Need-put-node-requires-3
 put-node-requires-3 c κs = search needs
 
--- src/writing.rt:75:1
 same-length-3 : tie.Need-same-length-3
 same-length-3 c = search needs
 
--- src/writing.rt:75:1
 same-length-4 : tie.Need-same-length-4
 same-length-4 c = search needs
 
--- src/writing.rt:75:1
 returns-3 : tie.Need-returns-3
 returns-3 c =
     let x = c .before .before .before .before .before .before .before .before .before .before .before .before in

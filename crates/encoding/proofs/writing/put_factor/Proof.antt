@@ -1,3 +1,4 @@
+-- `encoding::writing::put_factor` meets its contract. Assumes nothing.
 use borrow.Author.Needs.{needs}
 use mathlib.Core.Path.{sym, ap, _∙_}
 use mir.Syntax.{w64}
@@ -12,26 +13,21 @@ use Rattle.encoding.proofs.writing.put_factor.Reads as reads
 use Rattle.encoding.proofs.writing.put_factor.Lts as lts
 use Rattle.encoding.proofs.writing.put_node.Reads as put-node-reads
 
--- src/writing.rt:51:9
 returns : tie.Need-returns
 returns c =
     let s = c .before .before in
     let e = sym (toZ-ofZ (s .fits .factor)) ∙ ap (toZ w64) (c .if1 .taken) in
     rw (factor-one (s .args .factor) e) (nothing _ _ _ (s .pre .most))
 
--- src/writing.rt:53:5
 put-node-requires : tie.Need-put-node-requires
 put-node-requires c κs = search needs
 
--- src/writing.rt:46:1
 same-length : tie.Need-same-length
 same-length c = search needs
 
--- src/writing.rt:46:1
 same-length-2 : tie.Need-same-length-2
 same-length-2 c = search needs
 
--- src/writing.rt:46:1
 returns-2 : tie.Need-returns-2
 returns-2 c =
     let k = c .before .before .before in

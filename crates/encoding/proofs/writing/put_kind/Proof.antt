@@ -1,3 +1,4 @@
+-- `encoding::writing::put_kind` meets its contract. Assumes nothing.
 use borrow.Author.Needs.{needs}
 use mathlib.Core.Path.{sym}
 use lib.Seq.{set-out}
@@ -6,19 +7,15 @@ use Rattle.encoding.proofs.writing.put_kind.Tie as tie
 use Rattle.encoding.proofs.writing.put_kind.Reads as reads
 use Rattle.encoding.proofs.writing.put_kind.Lts as lts
 
--- src/writing.rt:16:9
 slice-write-kinds : tie.Need-slice-write-kinds
 slice-write-kinds c = search needs
 
--- src/writing.rt:12:1
 same-length : tie.Need-same-length
 same-length c = search needs
 
--- src/writing.rt:12:1
 returns : tie.Need-returns
 returns c = search needs
 
--- src/writing.rt:12:1
 returns-2 : tie.Need-returns-2
 returns-2 c = sym (set-out (c .before .args .kinds .now) (c .before .args .at) _ (c .if1 .left))
 

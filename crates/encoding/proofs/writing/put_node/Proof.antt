@@ -1,3 +1,4 @@
+-- `encoding::writing::put_node` meets its contract. Assumes nothing.
 use borrow.Author.Needs.{needs}
 use mir.Facts.{toZ-ofZ}
 use Rattle.encoding.proofs.writing.put_node.Statement.{statement}
@@ -8,27 +9,21 @@ use Rattle.encoding.proofs.writing.next_place.Reads as next-place-reads
 use Rattle.encoding.proofs.writing.put_kind.Reads as put-kind-reads
 use Rattle.encoding.proofs.writing.put_value.Reads as put-value-reads
 
--- src/writing.rt:40:5
 put-kind-requires : tie.Need-put-kind-requires
 put-kind-requires c κs = search needs
 
--- src/writing.rt:41:5
 put-value-requires : tie.Need-put-value-requires
 put-value-requires c κs = search needs
 
--- src/writing.rt:42:5
 next-place-requires : tie.Need-next-place-requires
 next-place-requires c κs = search needs
 
--- src/writing.rt:37:1
 same-length : tie.Need-same-length
 same-length c = search needs
 
--- src/writing.rt:37:1
 same-length-2 : tie.Need-same-length-2
 same-length-2 c = search needs
 
--- src/writing.rt:37:1
 returns : tie.Need-returns
 returns c =
     let v = c .before .before in

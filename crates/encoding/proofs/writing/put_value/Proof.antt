@@ -1,3 +1,4 @@
+-- `encoding::writing::put_value` meets its contract. Assumes nothing.
 use borrow.Author.Needs.{needs}
 use mathlib.Core.Path.{sym}
 use lib.Seq.{set-out}
@@ -6,23 +7,18 @@ use Rattle.encoding.proofs.writing.put_value.Tie as tie
 use Rattle.encoding.proofs.writing.put_value.Reads as reads
 use Rattle.encoding.proofs.writing.put_value.Lts as lts
 
--- src/writing.rt:25:9
 mul-value : tie.Need-mul-value
 mul-value c = search needs
 
--- src/writing.rt:25:9
 slice-set-from-value : tie.Need-slice-set-from-value
 slice-set-from-value c = search needs
 
--- src/writing.rt:21:1
 same-length : tie.Need-same-length
 same-length c = search needs
 
--- src/writing.rt:21:1
 returns : tie.Need-returns
 returns c = search needs
 
--- src/writing.rt:21:1
 returns-2 : tie.Need-returns-2
 returns-2 c = sym (set-out (c .before .args .values .now) (c .before .args .at) _ (c .if1 .left))
 

@@ -1,3 +1,5 @@
+-- `fold::parts::fold_constraints` meets its contract. Assumes nothing.
+use borrow.Author.Tests.{not-true, not-false}
 use borrow.Author.Needs.{needs, sfits-of}
 use mathlib.Core.Path.{_≡_, refl, ap, _∙_}
 use Prim.Native.Nat.{_-_, _<_}
@@ -5,7 +7,6 @@ use native.Mathlib.Omega.{arith}
 use native.Mathlib.Numerals.{add-one}
 use lib.ListN.{length}
 use mir.Facts.{toZ-ofZ}
-use Rattle.words.proofs.Ends.{flip-t, flip-f}
 use Rattle.indexing.specs.Map.{maxConstraints}
 use Rattle.fold.proofs.Runs.{constraint-run}
 use Rattle.fold.proofs.Constraints.{Keeping, keeping-start, keeping-over, keeping-next, keeping-end, place-after, count-below}
@@ -31,11 +32,9 @@ below c =
     let s = c .before .before .before .before in
     omega (arith, c .loop-test .taken, constraint-run (s .args .t1) (s .pre .0 .formed) (c .before .loop .k) (c .loop-test .taken) .1)
 
--- src/parts.rt:204:5
 loop-holds : tie.Need-loop-holds Inv-loop μ-loop
 loop-holds c = let s = c .before .before in (keeping-start (s .args .t1) (s .pre .2) (s .pre .3), refl, refl, refl, refl, refl, refl, refl)
 
--- src/parts.rt:205:13
 fold-constraint-requires : tie.Need-fold-constraint-requires Inv-loop μ-loop
 fold-constraint-requires c κs =
     let t = c .before .before .before .before in
@@ -52,49 +51,40 @@ fold-constraint-requires c κs =
       l .loop .inv .0 .room,
     )
 
--- src/parts.rt:208:13
 same-length : tie.Need-same-length Inv-loop μ-loop
 same-length c = search needs
 
--- src/parts.rt:208:13
 same-length-2 : tie.Need-same-length-2 Inv-loop μ-loop
 same-length-2 c = search needs
 
--- src/parts.rt:208:13
 same-length-3 : tie.Need-same-length-3 Inv-loop μ-loop
 same-length-3 c = search needs
 
--- src/parts.rt:208:13
 same-length-4 : tie.Need-same-length-4 Inv-loop μ-loop
 same-length-4 c = search needs
 
--- src/parts.rt:208:13
 same-length-5 : tie.Need-same-length-5 Inv-loop μ-loop
 same-length-5 c = search needs
 
--- src/parts.rt:208:13
 same-length-6 : tie.Need-same-length-6 Inv-loop μ-loop
 same-length-6 c =
     let r = c .before .before .before .before .before .before in
     let l = r .before .before .before .before .before .before in
     r .fold-constraint .ensures .kept .kinds ∙ l .loop .inv .6
 
--- src/parts.rt:208:13
 same-length-7 : tie.Need-same-length-7 Inv-loop μ-loop
 same-length-7 c =
     let r = c .before .before .before .before .before .before in
     let l = r .before .before .before .before .before .before in
     r .fold-constraint .ensures .kept .values ∙ l .loop .inv .7
 
--- src/parts.rt:208:13
 returns : tie.Need-returns Inv-loop μ-loop
 returns c =
     let r = c .before .before .before .before .before .before in
     let t = r .before .before .before .before .before in
     let l = t .before in
-    keeping-over (l .before .before .before .args .t1) (l .loop .inv .0) (t .loop-test .taken) _ (r .fold-constraint .ensures) (flip-t _ (c .if1 .taken))
+    keeping-over (l .before .before .before .args .t1) (l .loop .inv .0) (t .loop-test .taken) _ (r .fold-constraint .ensures) (not-true _ (c .if1 .taken))
 
--- src/parts.rt:220:13
 sub-keep-constraint : tie.Need-sub-keep-constraint Inv-loop μ-loop
 sub-keep-constraint c =
     let i = c .before .before .before .before in
@@ -102,25 +92,20 @@ sub-keep-constraint c =
     let t = r .before .before .before .before .before in
     let l = t .before in
     let m = l .before .before .before .args .t1 in
-    place-after m (l .loop .inv .0) (t .loop-test .taken) _ (r .fold-constraint .ensures) (flip-f _ (i .if1 .left))
+    place-after m (l .loop .inv .0) (t .loop-test .taken) _ (r .fold-constraint .ensures) (not-false _ (i .if1 .left))
 
--- src/parts.rt:221:13
 mul-keep-constraint : tie.Need-mul-keep-constraint Inv-loop μ-loop
 mul-keep-constraint c = record { fits = omega (arith, below (c .before .before .before .before .before .before .before .before .before .before .before .before .before .before .before)) }
 
--- src/parts.rt:221:13
 element-copy-out-keep-constraint : tie.Need-element-copy-out-keep-constraint Inv-loop μ-loop
 element-copy-out-keep-constraint c = below (c .before .before .before .before .before .before .before .before .before .before .before .before .before .before .before)
 
--- src/parts.rt:222:13
 mul-keep-constraint-2 : tie.Need-mul-keep-constraint-2 Inv-loop μ-loop
 mul-keep-constraint-2 c = record { fits = omega (arith, below (c .before .before .before .before .before .before .before .before .before .before .before .before .before .before .before .before)) }
 
--- src/parts.rt:222:13
 element-copy-out-keep-constraint-2 : tie.Need-element-copy-out-keep-constraint-2 Inv-loop μ-loop
 element-copy-out-keep-constraint-2 c = below (c .before .before .before .before .before .before .before .before .before .before .before .before .before .before .before .before)
 
--- src/parts.rt:214:9
 keep-constraint-requires : tie.Need-keep-constraint-requires Inv-loop μ-loop
 keep-constraint-requires c κs =
     let i = c .before .before .before .before .before .before in
@@ -137,15 +122,12 @@ keep-constraint-requires c κs =
       omega (arith, n, few),
     )
 
--- src/parts.rt:225:9
 add-k : tie.Need-add-k Inv-loop μ-loop
 add-k c = record { fits = omega (arith, below (c .before .before .before .before .before .before .before .before .before .before .before .before .before .before .before .before .before .before .before .before .before .before)) }
 
--- src/parts.rt:204:5
 loop-less : tie.Need-loop-less Inv-loop μ-loop
 loop-less c = search needs
 
--- src/parts.rt:204:5
 loop-again : tie.Need-loop-again Inv-loop μ-loop
 loop-again c =
     let kc = c .before .before .before .before in
@@ -154,7 +136,7 @@ loop-again c =
     let t = r .before .before .before .before .before in
     let l = t .before in
     let m = l .before .before .before .args .t1 in (
-      rw add-one (keeping-next m (l .loop .inv .0) (t .loop-test .taken) _ (r .fold-constraint .ensures) (flip-f _ (i .if1 .left)) (rw (toZ-ofZ (sfits-of (kc .before .before .keep-constraint-arg4 .given)), toZ-ofZ (sfits-of (kc .before .keep-constraint-arg5 .given))) at (kc .keep-constraint .ensures))),
+      rw add-one (keeping-next m (l .loop .inv .0) (t .loop-test .taken) _ (r .fold-constraint .ensures) (not-false _ (i .if1 .left)) (rw (toZ-ofZ (sfits-of (kc .before .before .keep-constraint-arg4 .given)), toZ-ofZ (sfits-of (kc .before .keep-constraint-arg5 .given))) at (kc .keep-constraint .ensures))),
       r .fold-constraint .kept .1 .1 .0 ∙ l .loop .inv .1,
       r .fold-constraint .kept .1 .1 .1 .0 ∙ l .loop .inv .2,
       kc .keep-constraint .kept .1 .0 ∙ l .loop .inv .3,
@@ -164,35 +146,27 @@ loop-again c =
       r .fold-constraint .ensures .kept .values ∙ l .loop .inv .7,
     )
 
--- src/parts.rt:186:1
 same-length-8 : tie.Need-same-length-8 Inv-loop μ-loop
 same-length-8 c = search needs
 
--- src/parts.rt:186:1
 same-length-9 : tie.Need-same-length-9 Inv-loop μ-loop
 same-length-9 c = search needs
 
--- src/parts.rt:186:1
 same-length-10 : tie.Need-same-length-10 Inv-loop μ-loop
 same-length-10 c = search needs
 
--- src/parts.rt:186:1
 same-length-11 : tie.Need-same-length-11 Inv-loop μ-loop
 same-length-11 c = search needs
 
--- src/parts.rt:186:1
 same-length-12 : tie.Need-same-length-12 Inv-loop μ-loop
 same-length-12 c = search needs
 
--- src/parts.rt:186:1
 same-length-13 : tie.Need-same-length-13 Inv-loop μ-loop
 same-length-13 c = c .before .loop .inv .6
 
--- src/parts.rt:186:1
 same-length-14 : tie.Need-same-length-14 Inv-loop μ-loop
 same-length-14 c = c .before .loop .inv .7
 
--- src/parts.rt:186:1
 returns-2 : tie.Need-returns-2 Inv-loop μ-loop
 returns-2 c =
     let l = c .before in

@@ -1,3 +1,5 @@
+-- `fold::parts::fold_results` meets its contract. Assumes nothing.
+use borrow.Author.Tests.{not-true, not-false}
 use borrow.Author.Needs.{needs}
 use mathlib.Core.Path.{_≡_, refl, ap, _∙_}
 use Prim.Native.Nat.{_-_, _≤_}
@@ -6,7 +8,6 @@ use native.Mathlib.Numerals.{add-one}
 use lib.ListN.{length, length-set}
 use Rattle.indexing.specs.Map.{maxResults}
 use Rattle.fold.proofs.Runs.{result-run}
-use Rattle.words.proofs.Ends.{flip-t, flip-f}
 use Rattle.encoding.proofs.Held.{holds-room}
 use Rattle.fold.proofs.Results.{Folding, folding-start, folding-over, place-next, folding-next, folding-end}
 use Rattle.fold.proofs.parts.fold_results.Statement.{statement}
@@ -27,11 +28,9 @@ abbrev μ-loop : tie.MeasureT-loop
 few : (c : tie.In-loop Inv-loop μ-loop) → c .before .before .before .before .args .m .results ≤ maxResults
 few c = let s = c .before .before .before .before in result-run (s .args .m) (s .pre .0 .formed) (c .before .loop .i) (c .loop-test .taken) .1
 
--- src/parts.rt:95:5
 loop-holds : tie.Need-loop-holds Inv-loop μ-loop
 loop-holds c = let s = c .before .before in (folding-start (s .args .m) (s .pre .2), refl, refl, refl, refl, refl)
 
--- src/parts.rt:96:13
 fold-run-requires : tie.Need-fold-run-requires Inv-loop μ-loop
 fold-run-requires c κs =
     let t = c .before .before .before .before in
@@ -49,71 +48,59 @@ fold-run-requires c κs =
       holds-room (f .holds),
     )
 
--- src/parts.rt:99:13
 same-length : tie.Need-same-length Inv-loop μ-loop
 same-length c = search needs
 
--- src/parts.rt:99:13
 same-length-2 : tie.Need-same-length-2 Inv-loop μ-loop
 same-length-2 c = search needs
 
--- src/parts.rt:99:13
 same-length-3 : tie.Need-same-length-3 Inv-loop μ-loop
 same-length-3 c = search needs
 
--- src/parts.rt:99:13
 same-length-4 : tie.Need-same-length-4 Inv-loop μ-loop
 same-length-4 c =
     let r = c .before .before .before .before .before .before in
     let l = r .before .before .before .before .before .before in
     r .fold-run .ensures .kept .kinds ∙ l .loop .inv .4
 
--- src/parts.rt:99:13
 same-length-5 : tie.Need-same-length-5 Inv-loop μ-loop
 same-length-5 c =
     let r = c .before .before .before .before .before .before in
     let l = r .before .before .before .before .before .before in
     r .fold-run .ensures .kept .values ∙ l .loop .inv .5
 
--- src/parts.rt:99:13
 returns : tie.Need-returns Inv-loop μ-loop
 returns c =
     let r = c .before .before .before .before .before .before in
     let t = r .before .before .before .before .before in
     let l = t .before in
-    folding-over (l .before .before .before .args .m) (l .loop .inv .0) (t .loop-test .taken) _ (r .fold-run .ensures) (flip-t _ (c .if1 .taken)) 0
+    folding-over (l .before .before .before .args .m) (l .loop .inv .0) (t .loop-test .taken) _ (r .fold-run .ensures) (not-true _ (c .if1 .taken)) 0
 
--- src/parts.rt:101:21
 sub-counts : tie.Need-sub-counts Inv-loop μ-loop
 sub-counts c =
     let i = c .before in
     let r = i .before .before .before .before .before .before in
     let t = r .before .before .before .before .before in
     let l = t .before in
-    place-next (l .before .before .before .args .m) (l .loop .inv .0) (t .loop-test .taken) _ (r .fold-run .ensures) (flip-f _ (i .if1 .left))
+    place-next (l .before .before .before .args .m) (l .loop .inv .0) (t .loop-test .taken) _ (r .fold-run .ensures) (not-false _ (i .if1 .left))
 
--- src/parts.rt:101:9
 mul-counts : tie.Need-mul-counts Inv-loop μ-loop
 mul-counts c =
     let t = c .before .before .before .before .before .before .before .before .before .before .before .before in
     record { fits = omega (arith, few t, t .loop-test .taken) }
 
--- src/parts.rt:101:9
 slice-write-counts : tie.Need-slice-write-counts Inv-loop μ-loop
 slice-write-counts c =
     let t = c .before .before .before .before .before .before .before .before .before .before .before .before in
     let l = t .before in
     omega (arith, few t, t .loop-test .taken, l .loop .inv .3, ap length (l .before .before .before .pre .2 .counts-zero))
 
--- src/parts.rt:103:9
 add-i : tie.Need-add-i Inv-loop μ-loop
 add-i c = search needs
 
--- src/parts.rt:95:5
 loop-less : tie.Need-loop-less Inv-loop μ-loop
 loop-less c = search needs
 
--- src/parts.rt:95:5
 loop-again : tie.Need-loop-again Inv-loop μ-loop
 loop-again c =
     let i = c .before in
@@ -121,7 +108,7 @@ loop-again c =
     let t = r .before .before .before .before .before in
     let l = t .before in
     let m = l .before .before .before .args .m in (
-      rw add-one (folding-next m (l .loop .inv .0) (t .loop-test .taken) _ (r .fold-run .ensures) (flip-f _ (i .if1 .left))),
+      rw add-one (folding-next m (l .loop .inv .0) (t .loop-test .taken) _ (r .fold-run .ensures) (not-false _ (i .if1 .left))),
       r .fold-run .kept .1 .1 .0 ∙ l .loop .inv .1,
       r .fold-run .kept .1 .1 .1 .0 ∙ l .loop .inv .2,
       length-set (l .loop .counts) (l .loop .i) (r .fold-run .result .at - l .loop .at) ∙ l .loop .inv .3,
@@ -129,27 +116,21 @@ loop-again c =
       r .fold-run .ensures .kept .values ∙ l .loop .inv .5,
     )
 
--- src/parts.rt:81:1
 same-length-6 : tie.Need-same-length-6 Inv-loop μ-loop
 same-length-6 c = search needs
 
--- src/parts.rt:81:1
 same-length-7 : tie.Need-same-length-7 Inv-loop μ-loop
 same-length-7 c = search needs
 
--- src/parts.rt:81:1
 same-length-8 : tie.Need-same-length-8 Inv-loop μ-loop
 same-length-8 c = search needs
 
--- src/parts.rt:81:1
 same-length-9 : tie.Need-same-length-9 Inv-loop μ-loop
 same-length-9 c = c .before .loop .inv .4
 
--- src/parts.rt:81:1
 same-length-10 : tie.Need-same-length-10 Inv-loop μ-loop
 same-length-10 c = c .before .loop .inv .5
 
--- src/parts.rt:81:1
 returns-2 : tie.Need-returns-2 Inv-loop μ-loop
 returns-2 c =
     let l = c .before in

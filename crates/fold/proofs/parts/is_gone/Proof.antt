@@ -1,3 +1,4 @@
+-- `fold::parts::is_gone` meets its contract. Assumes nothing.
 use borrow.Author.Needs.{needs, sfits-of}
 use mir.Syntax.{w64}
 use mir.Facts.{toZ-ofZ}
@@ -9,31 +10,24 @@ use Rattle.fold.proofs.parts.is_gone.Lts as lts
 use Rattle.fold.proofs.parts.is_inside.Reads as is-inside-reads
 use Rattle.words.proofs.reckon.Reads as reckon-reads
 
--- src/parts.rt:120:9
 reckon-requires : tie.Need-reckon-requires
 reckon-requires c κs = search needs
 
--- src/parts.rt:121:27
 mul-is-inside : tie.Need-mul-is-inside
 mul-is-inside c = search needs
 
--- src/parts.rt:121:27
 element-copy-out-is-inside : tie.Need-element-copy-out-is-inside
 element-copy-out-is-inside c = search needs
 
--- src/parts.rt:121:50
 mul-is-inside-2 : tie.Need-mul-is-inside-2
 mul-is-inside-2 c = search needs
 
--- src/parts.rt:121:50
 element-copy-out-is-inside-2 : tie.Need-element-copy-out-is-inside-2
 element-copy-out-is-inside-2 c = search needs
 
--- src/parts.rt:121:5
 is-inside-requires : tie.Need-is-inside-requires
 is-inside-requires c κs = search needs
 
--- src/parts.rt:116:1
 returns : tie.Need-returns
 returns c =
     let t = c .before .before in

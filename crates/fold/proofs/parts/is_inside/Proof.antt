@@ -1,3 +1,4 @@
+-- `fold::parts::is_inside` meets its contract. Assumes nothing.
 use mir.Facts.{toZ-ofZ}
 use Rattle.fold.proofs.Constraints.{inside-yes, inside-no}
 use Rattle.fold.proofs.parts.is_inside.Statement.{statement}
@@ -5,14 +6,12 @@ use Rattle.fold.proofs.parts.is_inside.Tie as tie
 use Rattle.fold.proofs.parts.is_inside.Reads as reads
 use Rattle.fold.proofs.parts.is_inside.Lts as lts
 
--- src/parts.rt:109:1
 returns : tie.Need-returns
 returns c =
     let s = c .before in
     let t = rw (toZ-ofZ (s .fits .a), toZ-ofZ (s .fits .lo)) at (c .if1 .taken) in
     rw (toZ-ofZ (s .fits .hi), toZ-ofZ (s .fits .b)) (inside-yes (s .args .lo) (s .args .hi) (s .args .a) (s .args .b) t)
 
--- src/parts.rt:109:1
 returns-2 : tie.Need-returns-2
 returns-2 c =
     let s = c .before in

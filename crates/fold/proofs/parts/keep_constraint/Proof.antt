@@ -1,3 +1,4 @@
+-- `fold::parts::keep_constraint` meets its contract. Assumes nothing.
 use borrow.Author.Needs.{needs}
 use mathlib.Core.Path.{refl}
 use mir.Facts.{toZ-ofZ}
@@ -6,51 +7,39 @@ use Rattle.fold.proofs.parts.keep_constraint.Tie as tie
 use Rattle.fold.proofs.parts.keep_constraint.Reads as reads
 use Rattle.fold.proofs.parts.keep_constraint.Lts as lts
 
--- src/parts.rt:177:9
 returns : tie.Need-returns
 returns c = search needs
 
--- src/parts.rt:179:5
 mul-counts : tie.Need-mul-counts
 mul-counts c = search needs
 
--- src/parts.rt:179:5
 slice-write-counts : tie.Need-slice-write-counts
 slice-write-counts c = search needs
 
--- src/parts.rt:180:5
 mul-lo : tie.Need-mul-lo
 mul-lo c = search needs
 
--- src/parts.rt:180:5
 slice-set-from-lo : tie.Need-slice-set-from-lo
 slice-set-from-lo c = search needs
 
--- src/parts.rt:181:5
 mul-hi : tie.Need-mul-hi
 mul-hi c = search needs
 
--- src/parts.rt:181:5
 slice-set-from-hi : tie.Need-slice-set-from-hi
 slice-set-from-hi c = search needs
 
--- src/parts.rt:182:5
 add-result : tie.Need-add-result
 add-result c = search needs
 
--- src/parts.rt:163:1
 same-length : tie.Need-same-length
 same-length c = search needs
 
--- src/parts.rt:163:1
 same-length-2 : tie.Need-same-length-2
 same-length-2 c = search needs
 
--- src/parts.rt:163:1
 same-length-3 : tie.Need-same-length-3
 same-length-3 c = search needs
 
--- src/parts.rt:163:1
 returns-2 : tie.Need-returns-2
 returns-2 c =
     rw (c .if1 .left, toZ-ofZ (c .before .fits .lo), toZ-ofZ (c .before .fits .hi)) (record { counts-are = refl; lower-are = refl; upper-are = refl; count-is = refl })

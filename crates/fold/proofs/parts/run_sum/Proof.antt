@@ -1,3 +1,4 @@
+-- `fold::parts::run_sum` meets its contract. Assumes nothing.
 use borrow.Author.Needs.{needs}
 use mathlib.Core.Path.{_≡_, sym, _∙_}
 use Prim.Native.Nat.{_+_, _≤_}
@@ -33,38 +34,30 @@ end c =
     let s = start c in
     run-end (s .args .m) (s .pre .0 .formed) (s .args .i) (s .pre .1) _ _ (told c) (long-kinds s) (long-values s)
 
--- src/parts.rt:26:11
 run-of-requires : tie.Need-run-of-requires
 run-of-requires c κs = search needs
 
--- src/parts.rt:27:19
 enum-known-from : tie.Need-enum-known-from
 enum-known-from c = search needs
 
--- src/parts.rt:29:17
 slice-aggregate-tree-sum : tie.Need-slice-aggregate-tree-sum
 slice-aggregate-tree-sum c = search needs
 
--- src/parts.rt:30:17
 slice-aggregate-tree-sum-2 : tie.Need-slice-aggregate-tree-sum-2
 slice-aggregate-tree-sum-2 c = search needs
 
--- src/parts.rt:31:17
 slice-aggregate-tree-sum-3 : tie.Need-slice-aggregate-tree-sum-3
 slice-aggregate-tree-sum-3 c = search needs
 
--- src/parts.rt:32:17
 slice-aggregate-tree-sum-4 : tie.Need-slice-aggregate-tree-sum-4
 slice-aggregate-tree-sum-4 c = search needs
 
--- src/parts.rt:35:17
 add-tree-sum : tie.Need-add-tree-sum
 add-tree-sum c =
     let f = c .before .before .before .before .before in
     let e = end f in
     record { fits = omega arith }
 
--- src/parts.rt:28:13
 tree-sum-requires : tie.Need-tree-sum-requires
 tree-sum-requires c κs =
     let f = c .before .before .before .before .before .before .before in
@@ -73,15 +66,12 @@ tree-sum-requires c κs =
       record { place = omega arith; few = s .pre .2 .few-words; few-scratch = s .pre .2 .few-scratch },
     )
 
--- src/parts.rt:28:13
 same-length : tie.Need-same-length
 same-length c = search needs
 
--- src/parts.rt:28:13
 same-length-2 : tie.Need-same-length-2
 same-length-2 c = search needs
 
--- src/parts.rt:28:13
 returns : tie.Need-returns
 returns c =
     let t = c .before .before in
@@ -89,11 +79,9 @@ returns c =
     let s = start f in
     run-folded (s .args .m) (s .pre .0 .formed) (s .args .i) (s .pre .1) _ _ (told f) (long-kinds s) (long-values s) _ _ _ _ _ (s .pre .2) (t .tree-sum .ensures)
 
--- src/parts.rt:42:13
 enum-told : tie.Need-enum-told
 enum-told c = search needs
 
--- src/parts.rt:42:13
 returns-2 : tie.Need-returns-2
 returns-2 c =
     let r = c .before .before in

@@ -1,3 +1,4 @@
+-- `fold::whole::bound_at` meets its contract. Assumes nothing.
 use borrow.Author.Needs.{needs, sfits-of}
 use native.Mathlib.Omega.{arith}
 use mir.Facts.{toZ-ofZ}
@@ -7,41 +8,33 @@ use Rattle.fold.proofs.whole.bound_at.Tie as tie
 use Rattle.fold.proofs.whole.bound_at.Reads as reads
 use Rattle.fold.proofs.whole.bound_at.Lts as lts
 
--- src/whole.rt:25:20
 mul-result : tie.Need-mul-result
 mul-result c = search needs
 
--- src/whole.rt:25:20
 shared-slice-copy-out-result : tie.Need-shared-slice-copy-out-result
 shared-slice-copy-out-result c = search needs
 
--- src/whole.rt:25:13
 returns : tie.Need-returns
 returns c =
     let s = c .before .before .before in
     rw (toZ-ofZ (sfits-of (c .result .given))) (bound-dim (s .pre .0) (s .args .place) (c .before .if2 .taken))
 
--- src/whole.rt:27:9
 returns-2 : tie.Need-returns-2
 returns-2 c =
     let s = c .before .before in
     bound-past-dims (s .pre .0) (s .args .place) (c .before .if1 .taken) (omega (arith, c .if2 .left))
 
--- src/whole.rt:30:16
 mul-result-2 : tie.Need-mul-result-2
 mul-result-2 c = search needs
 
--- src/whole.rt:30:16
 shared-slice-copy-out-result-2 : tie.Need-shared-slice-copy-out-result-2
 shared-slice-copy-out-result-2 c = search needs
 
--- src/whole.rt:30:9
 returns-3 : tie.Need-returns-3
 returns-3 c =
     let s = c .before .before .before in
     rw (toZ-ofZ (sfits-of (c .result2 .given))) (bound-ranged (s .pre .0) (s .args .place) (omega (arith, c .before .before .if1 .left)) (c .before .if3 .taken))
 
--- src/whole.rt:19:1
 returns-4 : tie.Need-returns-4
 returns-4 c =
     let s = c .before .before in

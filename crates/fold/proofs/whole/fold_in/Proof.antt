@@ -1,9 +1,10 @@
+-- `fold::whole::fold_in` meets its contract. Assumes nothing.
+use borrow.Author.Tests.{not-true, not-false}
 use borrow.Author.Needs.{needs}
 use mathlib.Core.Path.{_≡_, refl, _∙_}
 use native.Mathlib.Omega.{arith}
 use lib.ListN.{length}
 use Rattle.expression.specs.Node.{maxPlaces}
-use Rattle.words.proofs.Ends.{flip-t, flip-f}
 use Rattle.encoding.proofs.Held.{holds-room}
 use Rattle.fold.proofs.Assembled.{bounded, results-large, constraints-large, nodes-many, assembled}
 use Rattle.fold.proofs.whole.fold_in.Statement.{statement}
@@ -21,63 +22,49 @@ long-lower s = search needs
 long-upper : (s : tie.Start) → length (s .args .t1 .upper) ≡ maxPlaces
 long-upper s = search needs
 
--- src/whole.rt:80:56
 slice-aggregate-fold-results : tie.Need-slice-aggregate-fold-results
 slice-aggregate-fold-results c = search needs
 
--- src/whole.rt:80:69
 slice-aggregate-fold-results-2 : tie.Need-slice-aggregate-fold-results-2
 slice-aggregate-fold-results-2 c = search needs
 
--- src/whole.rt:80:81
 slice-aggregate-fold-results-3 : tie.Need-slice-aggregate-fold-results-3
 slice-aggregate-fold-results-3 c = search needs
 
--- src/whole.rt:80:9
 fold-results-requires : tie.Need-fold-results-requires
 fold-results-requires c κs = search needs
 
--- src/whole.rt:83:9
 refused-requires : tie.Need-refused-requires
 refused-requires c κs = search needs
 
--- src/whole.rt:83:9
 same-length : tie.Need-same-length
 same-length c = search needs
 
--- src/whole.rt:83:9
 same-length-2 : tie.Need-same-length-2
 same-length-2 c = search needs
 
--- src/whole.rt:83:9
 returns : tie.Need-returns
 returns c =
     let i = c .before in
     let fr = i .before .before .before .before .before .before in
     let s = fr .before .before .before .before .before .before in
-    c .refused .ensures ∙ results-large (s .args .t1) (fr .fold-results .ensures) (flip-t _ (i .if1 .taken))
+    c .refused .ensures ∙ results-large (s .args .t1) (fr .fold-results .ensures) (not-true _ (i .if1 .taken))
 
--- src/whole.rt:92:9
 slice-aggregate-fold-constraints : tie.Need-slice-aggregate-fold-constraints
 slice-aggregate-fold-constraints c = search needs
 
--- src/whole.rt:93:9
 slice-aggregate-fold-constraints-2 : tie.Need-slice-aggregate-fold-constraints-2
 slice-aggregate-fold-constraints-2 c = search needs
 
--- src/whole.rt:94:9
 slice-aggregate-fold-constraints-3 : tie.Need-slice-aggregate-fold-constraints-3
 slice-aggregate-fold-constraints-3 c = search needs
 
--- src/whole.rt:95:9
 slice-aggregate-fold-constraints-4 : tie.Need-slice-aggregate-fold-constraints-4
 slice-aggregate-fold-constraints-4 c = search needs
 
--- src/whole.rt:96:9
 slice-aggregate-fold-constraints-5 : tie.Need-slice-aggregate-fold-constraints-5
 slice-aggregate-fold-constraints-5 c = search needs
 
--- src/whole.rt:88:9
 fold-constraints-requires : tie.Need-fold-constraints-requires
 fold-constraints-requires c κs =
     let f1 = c .before .before .before .before .before .before .before in
@@ -91,14 +78,12 @@ fold-constraints-requires c κs =
         few-scratch = omega (arith, s .pre .1 .few-scratch, fr .fold-results .kept .1 .1 .0);
       },
       record { counts-zero = refl; lower-zero = refl; upper-zero = refl },
-      holds-room (fr .fold-results .ensures .holds (flip-f _ (f1 .if1 .left))),
+      holds-room (fr .fold-results .ensures .holds (not-false _ (f1 .if1 .left))),
     )
 
--- src/whole.rt:101:9
 refused-requires-2 : tie.Need-refused-requires-2
 refused-requires-2 c κs = search needs
 
--- src/whole.rt:101:9
 same-length-3 : tie.Need-same-length-3
 same-length-3 c =
     let i = c .before in
@@ -108,7 +93,6 @@ same-length-3 c =
     let s = fr .before .before .before .before .before .before in
     fc .fold-constraints .kept .1 .0 ∙ fr .fold-results .kept .1 .0
 
--- src/whole.rt:101:9
 same-length-4 : tie.Need-same-length-4
 same-length-4 c =
     let i = c .before in
@@ -118,7 +102,6 @@ same-length-4 c =
     let s = fr .before .before .before .before .before .before in
     fc .fold-constraints .kept .1 .1 .0 ∙ fr .fold-results .kept .1 .1 .0
 
--- src/whole.rt:101:9
 returns-2 : tie.Need-returns-2
 returns-2 c =
     let i = c .before in
@@ -126,13 +109,11 @@ returns-2 c =
     let f1 = fc .before .before .before .before .before .before .before .before in
     let fr = f1 .before .before .before .before .before .before in
     let s = fr .before .before .before .before .before .before in
-    c .refused2 .ensures ∙ constraints-large (s .args .t1) (fr .fold-results .ensures) (flip-f _ (f1 .if1 .left)) (fc .fold-constraints .ensures) (flip-t _ (i .if2 .taken))
+    c .refused2 .ensures ∙ constraints-large (s .args .t1) (fr .fold-results .ensures) (not-false _ (f1 .if1 .left)) (fc .fold-constraints .ensures) (not-true _ (i .if2 .taken))
 
--- src/whole.rt:104:9
 refused-requires-3 : tie.Need-refused-requires-3
 refused-requires-3 c κs = search needs
 
--- src/whole.rt:104:9
 same-length-5 : tie.Need-same-length-5
 same-length-5 c =
     let i = c .before .before .before in
@@ -142,7 +123,6 @@ same-length-5 c =
     let s = fr .before .before .before .before .before .before in
     fc .fold-constraints .kept .1 .0 ∙ fr .fold-results .kept .1 .0
 
--- src/whole.rt:104:9
 same-length-6 : tie.Need-same-length-6
 same-length-6 c =
     let i = c .before .before .before in
@@ -152,7 +132,6 @@ same-length-6 c =
     let s = fr .before .before .before .before .before .before in
     fc .fold-constraints .kept .1 .1 .0 ∙ fr .fold-results .kept .1 .1 .0
 
--- src/whole.rt:104:9
 returns-3 : tie.Need-returns-3
 returns-3 c =
     let t = c .before in
@@ -162,9 +141,8 @@ returns-3 c =
     let fr = f1 .before .before .before .before .before .before in
     let s = fr .before .before .before .before .before .before in
     c .refused3 .ensures
-    ∙ nodes-many (s .args .t1) (fr .fold-results .ensures) (flip-f _ (f1 .if1 .left)) (fc .fold-constraints .ensures) (flip-f _ (i .if2 .left)) (t .if3 .taken)
+    ∙ nodes-many (s .args .t1) (fr .fold-results .ensures) (not-false _ (f1 .if1 .left)) (fc .fold-constraints .ensures) (not-false _ (i .if2 .left)) (t .if3 .taken)
 
--- src/whole.rt:111:20
 kept-bounds-requires : tie.Need-kept-bounds-requires
 kept-bounds-requires c κs =
     let i = c .before .before .before .before .before in
@@ -174,7 +152,6 @@ kept-bounds-requires c κs =
     let s = fr .before .before .before .before .before .before in
     bounded (s .args .t1) (s .pre .0 .formed) (s .args .t1 .lower) (long-lower s)
 
--- src/whole.rt:112:20
 kept-bounds-requires-2 : tie.Need-kept-bounds-requires-2
 kept-bounds-requires-2 c κs =
     let i = c .before .before .before .before .before .before .before .before .before in
@@ -184,7 +161,6 @@ kept-bounds-requires-2 c κs =
     let s = fr .before .before .before .before .before .before in
     bounded (s .args .t1) (s .pre .0 .formed) (s .args .t1 .upper) (long-upper s)
 
--- src/whole.rt:73:1
 same-length-7 : tie.Need-same-length-7
 same-length-7 c =
     let i = c .before .before .before .before .before .before .before .before .before .before in
@@ -194,7 +170,6 @@ same-length-7 c =
     let s = fr .before .before .before .before .before .before in
     fc .fold-constraints .kept .1 .0 ∙ fr .fold-results .kept .1 .0
 
--- src/whole.rt:73:1
 same-length-8 : tie.Need-same-length-8
 same-length-8 c =
     let i = c .before .before .before .before .before .before .before .before .before .before in
@@ -204,7 +179,6 @@ same-length-8 c =
     let s = fr .before .before .before .before .before .before in
     fc .fold-constraints .kept .1 .1 .0 ∙ fr .fold-results .kept .1 .1 .0
 
--- src/whole.rt:73:1
 returns-4 : tie.Need-returns-4
 returns-4 c =
     let k = c .before .before .before .before in
@@ -214,7 +188,7 @@ returns-4 c =
     let f1 = fc .before .before .before .before .before .before .before .before in
     let fr = f1 .before .before .before .before .before .before in
     let s = fr .before .before .before .before .before .before in
-    assembled (s .args .t1) (fr .fold-results .ensures) (flip-f _ (f1 .if1 .left)) (fc .fold-constraints .ensures) (flip-f _ (i .if2 .left)) (omega (arith, t .if3 .left))
+    assembled (s .args .t1) (fr .fold-results .ensures) (not-false _ (f1 .if1 .left)) (fc .fold-constraints .ensures) (not-false _ (i .if2 .left)) (omega (arith, t .if3 .left))
     _ _ (k .kept-bounds .ensures) (c .kept-bounds2 .ensures)
 
 pub fold-in-spec : {M : Type 1} → statement M

@@ -1,3 +1,4 @@
+-- `fold::whole::fold_many` meets its contract. Assumes nothing.
 use borrow.Author.Needs.{needs}
 use native.Mathlib.Omega.{arith}
 use Rattle.fold.proofs.Runs.{nodes-most}

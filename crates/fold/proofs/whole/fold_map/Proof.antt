@@ -1,3 +1,4 @@
+-- `fold::whole::fold_map` meets its contract. Assumes nothing.
 use borrow.Author.Needs.{needs}
 use mathlib.Core.Path.{sym, ap, _∙_}
 use Rattle.indexing.proofs.Formed.{accepted-of}
@@ -11,21 +12,17 @@ use Rattle.indexing.proofs.inner.judged.Reads as judged-reads
 use Rattle.fold.proofs.whole.fold_accepted.Reads as fold-accepted-reads
 use Rattle.fold.proofs.whole.refused.Reads as refused-reads
 
--- src/whole.rt:139:11
 judged-requires : tie.Need-judged-requires
 judged-requires c κs = search needs
 
--- src/whole.rt:141:13
 enum-told : tie.Need-enum-told
 enum-told c = search needs
 
--- src/whole.rt:141:13
 fold-accepted-requires : tie.Need-fold-accepted-requires
 fold-accepted-requires c κs =
     let j = c .before .before in
     accepted-of (j .before .args .m) (sym (j .judged .ensures) ∙ c .enum-told .given .1)
 
--- src/whole.rt:141:13
 returns : tie.Need-returns
 returns c =
     let e = c .before in
@@ -33,15 +30,12 @@ returns c =
     let m = j .before .args .m in
     ap foldedAnswer (c .fold-accepted .ensures) ∙ folded-done m (sym (j .judged .ensures) ∙ e .enum-told .given .1)
 
--- src/whole.rt:143:26
 enum-known-r : tie.Need-enum-known-r
 enum-known-r c = search needs
 
--- src/whole.rt:144:13
 refused-requires : tie.Need-refused-requires
 refused-requires c κs = search needs
 
--- src/whole.rt:144:13
 returns-2 : tie.Need-returns-2
 returns-2 c =
     let r = c .before .before in

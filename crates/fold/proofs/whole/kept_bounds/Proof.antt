@@ -1,3 +1,4 @@
+-- `fold::whole::kept_bounds` meets its contract. Assumes nothing.
 use borrow.Author.Needs.{needs, sfits-of}
 use mathlib.Core.Path.{_≡_, refl, _∙_}
 use Prim.Native.Nat.{ℕ, _-_, _<_, _≤_}
@@ -21,31 +22,24 @@ Inv-loop bounds dims ranges out₀ i₀ out i =
 abbrev μ-loop : tie.MeasureT-loop
 μ-loop bounds dims ranges out₀ i₀ out i = maxPlaces - i
 
--- src/whole.rt:42:5
 loop-holds : tie.Need-loop-holds Inv-loop μ-loop
 loop-holds c = (omega arith, refl, λ k h. absurd (omega arith))
 
--- src/whole.rt:43:18
 bound-at-requires : tie.Need-bound-at-requires Inv-loop μ-loop
 bound-at-requires c κs = (c .before .before .pre, c .loop-test .taken)
 
--- src/whole.rt:43:9
 mul-out : tie.Need-mul-out Inv-loop μ-loop
 mul-out c = search needs
 
--- src/whole.rt:43:9
 array-set-from-out : tie.Need-array-set-from-out Inv-loop μ-loop
 array-set-from-out c = search needs
 
--- src/whole.rt:44:9
 add-i : tie.Need-add-i Inv-loop μ-loop
 add-i c = search needs
 
--- src/whole.rt:42:5
 loop-less : tie.Need-loop-less Inv-loop μ-loop
 loop-less c = search needs
 
--- src/whole.rt:42:5
 loop-again : tie.Need-loop-again Inv-loop μ-loop
 loop-again c =
     let t = c .before in
@@ -57,7 +51,6 @@ loop-again c =
       bounds-next (s .args .dims) (s .args .ranges) (s .args .bounds .now) (l .loop .out) (c .bound-at .result) (l .loop .i) (l .loop .inv .1) (t .loop-test .taken) (l .loop .inv .2) (c .bound-at .ensures),
     )
 
--- src/whole.rt:36:1
 returns : tie.Need-returns Inv-loop μ-loop
 returns c =
     let l = c .before in

@@ -1,4 +1,5 @@
 -- `rules::applying::fitting` meets its contract. The invariant: trying from g on finds what trying all numbers finds. Assumes nothing.
+use borrow.Author.Tests.{not-true, not-false}
 use mathlib.Core.Path.{_≡_, refl, sym, ap, _∙_}
 use mathlib.Core.List.{List}
 use Prim.Native.Nat.{ℕ, _+_, _*_, _^_, _<_, _≤_}
@@ -13,8 +14,7 @@ use mir.Facts.{toZ-ofZ, toZ-pos}
 use Rattle.expression.specs.Expression.{Kind, Range}
 use Rattle.folding.specs.Sum.{Sum, termCount, sumSize}
 use Rattle.folding.specs.Fold.{commonDivisors, divisorsTried}
-use Rattle.words.specs.Laid.{sumWords}
-use Rattle.words.proofs.Ends.{flip-t, flip-f}
+use Rattle.words.specs.Words.{sumWords}
 use Rattle.rules.specs.Rules.{fittingOf}
 use Rattle.rules.specs.declared.applying.Found.the-variants as F
 use Rattle.rules.proofs.Search.{fromDivisor, from-first, from-passed, from-fits, from-next, from-none}
@@ -82,7 +82,7 @@ returns c =
     record {
       safe = tt;
       is = λ β t x j h k.
-          sym (from-passed β t (m .magnitude .result) (l .loop .g) (i .loop-test .taken) (sym (T .is β t x j h (omega (arith, l .loop .inv .2))) ∙ flip-t (y .try-at .result .ok) (c .if1 .taken)))
+          sym (from-passed β t (m .magnitude .result) (l .loop .g) (i .loop-test .taken) (sym (T .is β t x j h (omega (arith, l .loop .inv .2))) ∙ not-true (y .try-at .result .ok) (c .if1 .taken)))
           ∙ l .loop .inv .3 β t x j h k ∙ ap (λ (n : ℕ). fittingOf β t (divisorsTried n t)) e;
     }
 
@@ -110,7 +110,7 @@ returns-2 c =
     (record {
       safe = (record { lt = lt→ltb 0 (l .loop .g) (omega (arith, i .loop-test .taken)) }, omega (arith, l .loop .inv .1, e));
       is = λ β t x j h k.
-          let o = flip-f (y .try-at .result .ok) (n1 .if1 .left) in
+          let o = not-false (y .try-at .result .ok) (n1 .if1 .left) in
           let v : 7 * sumSize t + 1 ≤ length (l .loop .out) = omega (arith, l .loop .inv .2) in
           let f = T .fits β t x j h v o in
           ap (λ (a : ℤ). F.At (pos (l .loop .g)) a) (f .1)
@@ -141,7 +141,7 @@ loop-again c =
       omega (arith, N .high (i .loop-test .taken), l .loop .inv .1),
       y .try-at .kept .1 .1 .1 .1 .0 ∙ l .loop .inv .2,
       λ β t x j h k.
-          let o = flip-f (y .try-at .result .ok) (n1 .if1 .left) in
+          let o = not-false (y .try-at .result .ok) (n1 .if1 .left) in
           let v : 7 * sumSize t + 1 ≤ length (l .loop .out) = omega (arith, l .loop .inv .2) in
           let f = T .fits β t x j h v o in
           ap (λ (n : ℕ). fittingOf β t (fromDivisor n (commonDivisors (m .magnitude .result) t))) (N .is β t x j h)

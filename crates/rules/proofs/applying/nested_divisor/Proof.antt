@@ -7,7 +7,7 @@ use mir.Syntax.{w64}
 use mir.Val.{toZ, ofZ}
 use mir.Facts.{toZ-ofZ}
 use Rattle.integer.proofs.Trunc.{above-0, abs-above-0}
-use Rattle.words.specs.Sat.{saturate}
+use Rattle.words.specs.Saturated.{saturate}
 use Rattle.rules.specs.Rules.{keptDivisor}
 use Rattle.rules.proofs.Nested.{at-floordiv, at-coefficient, at-constant, nest-not, nest-is}
 use Rattle.rules.proofs.applying.nested_divisor.Statement.{statement}
@@ -19,14 +19,14 @@ returns c = nest-not _ (c .before .args .w .now) _ _ _ (λ β e x a k y i j st e
 returns-2 : tie.Need-returns-2
 returns-2 c = nest-not _ (c .before .before .args .w .now) _ _ _ (λ β e x a k y i j st e1 k0. c .if2 .taken j)
 
-nat-requires : tie.Need-nat-requires
-nat-requires c κs = search needs
+magnitude-at-requires : tie.Need-magnitude-at-requires
+magnitude-at-requires c κs = search needs
 
 returns-3 : tie.Need-returns-3
 returns-3 c =
     let n = c .before in
     let s = n .before .before .before in
-    nest-not _ (s .args .w .now) _ _ _ (λ β e x a k y i j st e1 k0. c .if3 .taken (n .nat .ensures ∙ at-floordiv (s .args .w .now) (s .args .p) β e x a k y st))
+    nest-not _ (s .args .w .now) _ _ _ (λ β e x a k y i j st e1 k0. c .if3 .taken (n .magnitude-at .ensures ∙ at-floordiv (s .args .w .now) (s .args .p) β e x a k y st))
 
 skip-atom-requires : tie.Need-skip-atom-requires
 skip-atom-requires c κs = search needs
@@ -87,7 +87,7 @@ returns-6 c =
     let e2 = rw (toZ-ofZ (sfits-of (m .times .ok)), e1) at (c .kept-divisor .ensures) in
     let e3 = e2 ∙ ap (λ (z : ℤ). keptDivisor (saturate (getD (s .args .w .now) (d .forward2 .result) (pos 0) *ℤ z))) (above-0 (s .args .c) (s .pre .1)) in
     rw (toZ-ofZ {w = w64} {z = c .kept-divisor .result} (sfits-of (c .kept-divisor .ok)))
-    (nest-is _ (s .args .w .now) _ _ _ _ _ _ _ (abs-above-0 _ (s .pre .1)) (q .skip-atom .ensures) (b .forward .ensures) (d .forward2 .ensures) (i1 .if1 .left) (i2 .if2 .left) (sym (n .nat .ensures) ∙ i3 .if3 .left)
+    (nest-is _ (s .args .w .now) _ _ _ _ _ _ _ (abs-above-0 _ (s .pre .1)) (q .skip-atom .ensures) (b .forward .ensures) (d .forward2 .ensures) (i1 .if1 .left) (i2 .if2 .left) (sym (n .magnitude-at .ensures) ∙ i3 .if3 .left)
     (sym (vq .word .ensures) ∙ sym (toZ-ofZ (sfits-of (vq .word .ok))) ∙ ap (toZ w64) (i4 .if4 .left)) (sym (vb .word2 .ensures) ∙ sym (toZ-ofZ (sfits-of (vb .word2 .ok))) ∙ ap (toZ w64) (i5 .if5 .left)) e3)
 
 pub nested-divisor-spec : {M : Type 1} → statement M
@@ -96,7 +96,7 @@ nested-divisor-spec =
     (tie.spec
     returns
     returns-2
-    nat-requires
+    magnitude-at-requires
     returns-3
     skip-atom-requires
     word-requires

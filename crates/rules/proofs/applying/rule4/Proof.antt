@@ -31,8 +31,8 @@ returns c =
 forward-requires : tie.Need-forward-requires
 forward-requires c κs = search needs
 
-nat-requires : tie.Need-nat-requires
-nat-requires c κs = search needs
+magnitude-at-requires : tie.Need-magnitude-at-requires
+magnitude-at-requires c κs = search needs
 
 returns-2 : tie.Need-returns-2
 returns-2 c =
@@ -42,7 +42,7 @@ returns-2 c =
     let d = i .before in
     let s = d .before in
     let N = rw (toZ-ofZ (s .fits .c)) at (d .nested-divisor .ensures) in
-    rule4-many _ (s .args .w .now) _ _ (natAbs (s .args .c)) _ _ (abs-above-0 _ (s .pre .3)) N (λ e. i .if1 .left (ap (ofZ w64) e)) _ _ (h .forward .ensures) (k .nat .ensures) (s .pre .5) (c .if2 .taken)
+    rule4-many _ (s .args .w .now) _ _ (natAbs (s .args .c)) _ _ (abs-above-0 _ (s .pre .3)) N (λ e. i .if1 .left (ap (ofZ w64) e)) _ _ (h .forward .ensures) (k .magnitude-at .ensures) (s .pre .5) (c .if2 .taken)
 
 forward-requires-2 : tie.Need-forward-requires-2
 forward-requires-2 c κs = search needs
@@ -72,7 +72,7 @@ returns-3 c =
     let s = d .before in
     let N = rw (toZ-ofZ (s .fits .c)) at (d .nested-divisor .ensures) in
     rw (c .new-op .ensures, toZ-ofZ {w = w64} {z = d .nested-divisor .result} (sfits-of (d .nested-divisor .ok)))
-    (rule4-made _ (s .args .w .now) _ _ (natAbs (s .args .c)) _ _ (abs-above-0 _ (s .pre .3)) N (λ e. i .if1 .left (ap (ofZ w64) e)) _ _ (h .forward .ensures) (k .nat .ensures) _ _ _ _ _ _ (l .if2 .left) (b .forward2 .ensures) (m .scale .ensures) (p .put .ensures))
+    (rule4-made _ (s .args .w .now) _ _ (natAbs (s .args .c)) _ _ (abs-above-0 _ (s .pre .3)) N (λ e. i .if1 .left (ap (ofZ w64) e)) _ _ (h .forward .ensures) (k .magnitude-at .ensures) _ _ _ _ _ _ (l .if2 .left) (b .forward2 .ensures) (m .scale .ensures) (p .put .ensures))
 
 pub rule4-spec : {M : Type 1} → statement M
 rule4-spec =
@@ -83,7 +83,7 @@ rule4-spec =
     same-length
     returns
     forward-requires
-    nat-requires
+    magnitude-at-requires
     returns-2
     forward-requires-2
     scale-requires

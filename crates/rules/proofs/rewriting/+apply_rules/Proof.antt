@@ -1,14 +1,13 @@
-use borrow.Author.Needs.{needs, sfits-of}
-use mathlib.Core.Path.{_≡_, refl, sym, ap, _∙_}
+-- `rules::rewriting::apply_rules` meets its contract. Assumes nothing.
+use borrow.Author.Tests.{not-true, not-false}
+use borrow.Author.Needs.{needs}
+use mathlib.Core.Path.{refl, _∙_}
 use native.Mathlib.Omega.{arith}
 use Prim.Native.Nat.{ℕ, _<_}
-use lib.IntN.{ℤ, pos, natAbs}
-use lib.ListN.{length}
 use mir.Syntax.{w64}
 use mir.Facts.{toZ-ofZ}
 use borrow.Fn.Kinds.{In}
 use borrow.Fn.PlainCycle.{Measures, is, falls, and}
-use Rattle.words.proofs.Ends.{flip-t, flip-f}
 use Rattle.rules.proofs.Whole.{rewrites-none, rewrites-large, rewrites-passed, rewrites-sum, rewrites-refused, rewrites-again, counted-down, with-fuel, above-zero}
 use Rattle.rules.proofs.rewriting.apply_rules.Reads as apply-rules
 use Rattle.rules.proofs.rewriting.apply_rules.Kinds as apply-rules-kinds
@@ -61,7 +60,7 @@ pub +apply-rules-spec : {M : Type 1} → statement M
     let f = j .before .before in
     let s = f .before in
     with-fuel (counted-down _ (f .if1 .left))
-    (rewrites-large _ _ _ _ _ _ (s .pre .1 .0) _ (rw (flip-t (j .is-small-sum .result) (c .if2 .taken)) at (j .is-small-sum .ensures))))
+    (rewrites-large _ _ _ _ _ _ (s .pre .1 .0) _ (rw (not-true (j .is-small-sum .result) (c .if2 .taken)) at (j .is-small-sum .ensures))))
     -- apply-rule-requires
     (λ c κs. search needs)
     -- enum-told
@@ -78,7 +77,7 @@ pub +apply-rules-spec : {M : Type 1} → statement M
     let f = j .before .before in
     let s = f .before in
     with-fuel (counted-down _ (f .if1 .left))
-    (rewrites-passed _ _ _ _ _ _ (s .pre .1 .0) _ _ _ refl (rw (flip-f (j .is-small-sum .result) (i .if2 .left)) at (j .is-small-sum .ensures))
+    (rewrites-passed _ _ _ _ _ _ (s .pre .1 .0) _ _ _ refl (rw (not-false (j .is-small-sum .result) (i .if2 .left)) at (j .is-small-sum .ensures))
     (rw (c .enum-told .given .1, toZ-ofZ (s .fits .c)) at (a .apply-rule .ensures))))
     -- enum-known-terms
     (λ c. search needs)
@@ -104,7 +103,7 @@ pub +apply-rules-spec : {M : Type 1} → statement M
     let s = f .before in
     let e = rw (m .terms .given .1, toZ-ofZ (s .fits .c)) at (a .apply-rule .ensures) in
     with-fuel (counted-down _ (f .if1 .left))
-    (rewrites-sum _ _ _ _ _ _ _ _ _ _ _ _ _ _ (s .pre .1 .6) (rw (flip-f (j .is-small-sum .result) (i .if2 .left)) at (j .is-small-sum .ensures)) e (t1 .settle .ensures)))
+    (rewrites-sum _ _ _ _ _ _ _ _ _ _ _ _ _ _ (s .pre .1 .6) (rw (not-false (j .is-small-sum .result) (i .if2 .left)) at (j .is-small-sum .ensures)) e (t1 .settle .ensures)))
     -- enum-known-g
     (λ c. search needs)
     -- hold-both-requires
@@ -155,8 +154,8 @@ pub +apply-rules-spec : {M : Type 1} → statement M
     let s = f .before in
     let e = rw (m .g .given .1, toZ-ofZ (s .fits .c)) at (a .apply-rule .ensures) in
     let d = toZ-ofZ {w = w64} {z = m .g .given .0 .0 .divisor} (record { sfits = st .struct-told .given .1 .0 .1 }) in
-    let q = rw (flip-f (j .is-small-sum .result) (i .if2 .left)) at (j .is-small-sum .ensures) in
-    let R = rw (d, flip-t (r .apply-rules .result .small) (c .if3 .taken)) at (r .apply-rules .ensures) in
+    let q = rw (not-false (j .is-small-sum .result) (i .if2 .left)) at (j .is-small-sum .ensures) in
+    let R = rw (d, not-true (r .apply-rules .result .small) (c .if3 .taken)) at (r .apply-rules .ensures) in
     with-fuel (counted-down _ (f .if1 .left))
     (rewrites-refused _ _ _ _ _ _ _ _ _ _ _ _ _ _ (s .pre .1 .0) (above-zero _ (s .pre .1 .3)) q e (hb .hold-both .ensures) R))
     -- join-requires
@@ -195,8 +194,8 @@ pub +apply-rules-spec : {M : Type 1} → statement M
     let e = rw (m .g .given .1, toZ-ofZ (s .fits .c)) at (a .apply-rule .ensures) in
     let d = toZ-ofZ {w = w64} {z = m .g .given .0 .0 .divisor} (record { sfits = st .struct-told .given .1 .0 .1 }) in
     let k = toZ-ofZ {w = w64} {z = m .g .given .0 .0 .factor} (record { sfits = n .before .struct-told2 .given .0 .1 }) in
-    let q = rw (flip-f (j .is-small-sum .result) (i .if2 .left)) at (j .is-small-sum .ensures) in
-    let R = rw (d, flip-f (r .apply-rules .result .small) (l .if3 .left)) at (r .apply-rules .ensures) in
+    let q = rw (not-false (j .is-small-sum .result) (i .if2 .left)) at (j .is-small-sum .ensures) in
+    let R = rw (d, not-false (r .apply-rules .result .small) (l .if3 .left)) at (r .apply-rules .ensures) in
     let J = rw k at (n .join .ensures) in
     with-fuel (counted-down _ (f .if1 .left))
     (rewrites-again _ _ _ _ _ _ _ _ _ _ _ _ _ _ (s .pre .1 .0) (above-zero _ (s .pre .1 .3)) q e (hb .hold-both .ensures) R (s .pre .1 .6) _ _

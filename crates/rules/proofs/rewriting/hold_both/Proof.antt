@@ -1,3 +1,4 @@
+-- `rules::rewriting::hold_both` meets its contract. Assumes nothing.
 use borrow.Author.Needs.{needs}
 use Rattle.rules.proofs.Settled.{holds}
 use Rattle.rules.proofs.rewriting.hold_both.Statement.{statement}
@@ -6,19 +7,15 @@ use Rattle.rules.proofs.rewriting.hold_both.Reads as reads
 use Rattle.rules.proofs.rewriting.hold_both.Lts as lts
 use Rattle.words.proofs.copy.Reads as copy-reads
 
--- src/rewriting.rt:41:9
 copy-requires : tie.Need-copy-requires
 copy-requires c κs = search needs
 
--- src/rewriting.rt:42:5
 copy-requires-2 : tie.Need-copy-requires-2
 copy-requires-2 c κs = search needs
 
--- src/rewriting.rt:37:1
 same-length : tie.Need-same-length
 same-length c = search needs
 
--- src/rewriting.rt:37:1
 returns : tie.Need-returns
 returns c =
     let second = c .before in

@@ -1,3 +1,4 @@
+-- `rules::rewriting::is_small_sum` meets its contract. Assumes nothing.
 use borrow.Author.Needs.{needs}
 use Rattle.rules.proofs.Settled.{judges}
 use Rattle.rules.proofs.rewriting.is_small_sum.Statement.{statement}
@@ -6,11 +7,9 @@ use Rattle.rules.proofs.rewriting.is_small_sum.Reads as reads
 use Rattle.rules.proofs.rewriting.is_small_sum.Lts as lts
 use Rattle.words.proofs.reckon.Reads as reckon-reads
 
--- src/rewriting.rt:17:9
 reckon-requires : tie.Need-reckon-requires
 reckon-requires c κs = search needs
 
--- src/rewriting.rt:13:1
 returns : tie.Need-returns
 returns c = judges _ _ _ _ _ _ (c .reckon .ensures)
 

@@ -1,3 +1,4 @@
+-- `rules::rewriting::join` meets its contract. Assumes nothing.
 use borrow.Author.Needs.{needs}
 use mir.Facts.{toZ-ofZ}
 use Rattle.rules.proofs.Settled.{joins}
@@ -8,23 +9,18 @@ use Rattle.rules.proofs.rewriting.join.Lts as lts
 use Rattle.rules.proofs.rewriting.settle.Reads as settle-reads
 use Rattle.words.proofs.blend.Reads as blend-reads
 
--- src/rewriting.rt:59:9
 blend-requires : tie.Need-blend-requires
 blend-requires c κs = search needs
 
--- src/rewriting.rt:60:5
 settle-requires : tie.Need-settle-requires
 settle-requires c κs = search needs
 
--- src/rewriting.rt:47:1
 same-length : tie.Need-same-length
 same-length c = search needs
 
--- src/rewriting.rt:47:1
 same-length-2 : tie.Need-same-length-2
 same-length-2 c = search needs
 
--- src/rewriting.rt:47:1
 returns : tie.Need-returns
 returns c =
     let t = c .before in
