@@ -14,10 +14,14 @@ use Rattle.layout.specs.declared.Layout.{Layout}
 use Rattle.plan.specs.Answer.{spread}
 use Rattle.route.specs.Route.{routeZeros, routeOf}
 use Rattle.route.specs.declared.Station.{Station}
+use Rattle.indexing.specs.declared.IndexingMap.{IndexingMap}
+use Rattle.fold.specs.FoldMap.{foldAnswer}
+use Rattle.samples.specs.Maps.{joinGiven, joinFolded, sliceGiven, sliceFolded, splitGiven, splitFolded}
 
--- an answer on paper, or a whole number
+-- an answer on paper, of numbers or of a map, or a whole number
 pub data Value : Type 0 where
   answer : Answer ℕ → Value
+  mapped : Answer IndexingMap → Value
   integer : ℤ → Value
 
 -- what is asked, and what document 01 says
@@ -27,6 +31,9 @@ pub record Sample : Type 0 where
 
 abbrev says : Answer ℕ → Answer ℕ → Sample
 says a b = record { asked = answer a; expected = answer b }
+
+abbrev folds-to : IndexingMap → IndexingMap → Sample
+folds-to m wanted = record { asked = mapped (foldAnswer m); expected = mapped (done (wanted ∷ [])) }
 
 abbrev comes-to : ℤ → ℤ → Sample
 comes-to a b = record { asked = integer a; expected = integer b }
@@ -91,6 +98,12 @@ samples =
     ∷ says (pointOffset (matrix 4 8) tiled-twice (1 ∷ 0 ∷ [])) (at 1)
     ∷ says (pointOffset (matrix 4 8) tiled-twice (0 ∷ 1 ∷ [])) (at 2)
     ∷ says (pointOffset (matrix 4 8) tiled-twice (3 ∷ 7 ∷ [])) (at 31)
+    -- [32] to [4,8], output to input: (d0 * 8 + d1)
+    ∷ folds-to joinGiven joinFolded
+    -- slice [3:20:7], input to output: (d1 + 4) floordiv 7 - 1 with (d1 + 4) mod 7 in [0, 0]
+    ∷ folds-to sliceGiven sliceFolded
+    -- [4,8] to [2,4,4], output to input: (d0 * 2 + d1 floordiv 2, d2 + (d1 mod 2) * 4)
+    ∷ folds-to splitGiven splitFolded
     -- [3,5] at stations [A,T], [T,A], [T]: K = 1 gives places 0,1,0, total 2,078; K = 0 gives 1,0,0, total 3,072
     ∷ says (through (matrix 3 5) (station (A ∷ T ∷ []) ∷ station (T ∷ A ∷ []) ∷ station (T ∷ []) ∷ []) 1) (gives (0 ∷ 1 ∷ 0 ∷ []) 2078)
     ∷ says (through (matrix 3 5) (station (A ∷ T ∷ []) ∷ station (T ∷ A ∷ []) ∷ station (T ∷ []) ∷ []) 0) (gives (1 ∷ 0 ∷ 0 ∷ []) 3072)
