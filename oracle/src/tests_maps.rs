@@ -18,21 +18,24 @@ fn check_fold(cases: &[(&str, &str, &str, &str)]) {
 fn marked_samples_of_01() {
     check_fold(&[(
         "(d0, d1)",
-        "(d0 * 8) + d1 * 1",
+        "(d0 * 8 + d1) floordiv 1",
         "d0 in [0, 3], d1 in [0, 7]",
         "d0 * 8 + d1",
     )]);
     check(&[(
-        "fold (d0, d1, d2) -> (d0 - 5, (d1 - 3) floordiv 7, d2 floordiv 2), domain: \
-         d0 in [5, 9], d1 in [3, 17], d2 in [0, 48], (d1 - 3) mod 7 in [0, 0], d2 mod 2 in [0, 0]",
+        "fold (d0, d1, d2) -> ((d0 - 5) floordiv 1, (d1 - 3) floordiv 7, (d2 + 0) floordiv 2), \
+         domain: d0 in [5, 9], d1 in [3, 17], d2 in [0, 48], \
+         (d0 - 5) mod 1 in [0, 0], (d1 - 3) mod 7 in [0, 0], (d2 + 0) mod 2 in [0, 0]",
         "(d0, d1, d2) -> (d0 - 5, (d1 + 4) floordiv 7 - 1, d2 floordiv 2),\ndomain:\n\
          d0 in [5, 9],\nd1 in [3, 17],\nd2 in [0, 48],\n(d1 + 4) mod 7 in [0, 0],\nd2 mod 2 in [0, 0]",
     )]);
-    check_fold(&[(
-        "(d0, d1, d2)",
-        "(d0 * 16 + d1 * 4 + d2) floordiv 8, (d0 * 16 + d1 * 4 + d2) mod 8",
-        "d0 in [0, 1], d1 in [0, 3], d2 in [0, 3]",
-        "d0 * 2 + d1 floordiv 2, d2 + (d1 mod 2) * 4",
+    // Printed whole in 01, from the map that reshape gives.
+    check(&[(
+        "fold (d0, d1, d2) -> ((d0 * 16 + d1 * 4 + d2) floordiv 8, \
+         ((d0 * 16 + d1 * 4 + d2) floordiv 1) mod 8), \
+         domain: d0 in [0, 1], d1 in [0, 3], d2 in [0, 3]",
+        "(d0, d1, d2) -> (d0 * 2 + d1 floordiv 2, d2 + (d1 mod 2) * 4),\ndomain:\n\
+         d0 in [0, 1],\nd1 in [0, 3],\nd2 in [0, 3]",
     )]);
     check(&[
         (

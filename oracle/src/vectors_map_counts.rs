@@ -30,12 +30,25 @@ fn filler(nodes: usize) -> String {
     terms.join(" + ")
 }
 
+/// An expression of s0 in [0, 999] with exactly that many nodes, which folding keeps as it is.
+fn kept(nodes: usize) -> String {
+    let count = (nodes + 1) / 3;
+    let mut terms: Vec<String> = (0..count).map(|k| format!("s0 mod {}", k + 2)).collect();
+    match nodes - (3 * count - 1) {
+        0 => {}
+        1 => terms[0] = "(s0 mod 2) * 2".to_string(),
+        _ => terms.push("1".to_string()),
+    }
+    terms.join(" + ")
+}
+
 pub fn map_counts(text: &mut String) {
     variables(text);
     trees(text);
     nodes(text);
     nodes_of_readings(text);
     grown(text);
+    nearly_full(text);
 }
 
 fn variables(text: &mut String) {
@@ -202,4 +215,32 @@ fn grown(text: &mut String) {
     };
     let lines = [1, 2, 5, 20].map(chain);
     group(text, "maps: divisions nested up to 40 deep", lines.iter());
+}
+
+/// Folds of maps near 256 nodes, one of whose results grows from 5 nodes to 9.
+fn nearly_full(text: &mut String) {
+    let grow = "(d0 * 2 + d1) mod 4";
+    let bounds = "domain: d0 in [0, 5], d1 in [2, 3], s0 in [0, 999]";
+    let line = |nodes: usize, last: &str| {
+        let results = format!("{grow}, {}", kept(nodes));
+        format!("fold (d0, d1)[s0] -> ({results}), {bounds}{last}")
+    };
+    let alone = |nodes: usize| format!("fold (d0, d1)[s0] -> ({}), {bounds}", kept(nodes));
+    let working = ", d1 * -1 + 4611686018427387904 + 1 in [0, 0]";
+    let lines = [
+        alone(255),
+        alone(256),
+        alone(257),
+        // 252, 253, 256 and 257 nodes given; the fold has 256, 257 and 260.
+        line(247, ""),
+        line(248, ""),
+        line(251, ""),
+        line(252, ""),
+        // 7 of the result with 8 of the working, and 7 of the map given with 2.
+        line(245, working),
+        line(252, ", d0 in [1, 0]"),
+        line(252, "").replace("d1 in [2, 3]", "d1 in [3, 2]"),
+    ];
+    let title = "maps: folds of 256 nodes and 257";
+    group(text, title, lines.iter());
 }

@@ -7,8 +7,12 @@ pub const MAPS: &[Group] = &[
         "document 01, marked maps, and the map that it prints whole",
         &[
             "fold (d0, d1) -> (d0 * 8 + d1), domain: d0 in [0, 3], d1 in [0, 7]",
+            "fold (d0, d1) -> ((d0 * 8 + d1) floordiv 1), domain: d0 in [0, 3], d1 in [0, 7]",
+            // 000 prints (d1 - 3) floordiv 7 and (d1 - 3) mod 7. -3 is 7 * -1 + 4: by rule 3 of folding -1 leaves and 4 stays.
             "fold (d0, d1, d2) -> (d0 - 5, (d1 - 3) floordiv 7, d2 floordiv 2), domain: d0 in [5, 9], d1 in [3, 17], d2 in [0, 48], (d1 - 3) mod 7 in [0, 0], d2 mod 2 in [0, 0]",
+            "fold (d0, d1, d2) -> ((d0 - 5) floordiv 1, (d1 - 3) floordiv 7, (d2 + 0) floordiv 2), domain: d0 in [5, 9], d1 in [3, 17], d2 in [0, 48], (d0 - 5) mod 1 in [0, 0], (d1 - 3) mod 7 in [0, 0], (d2 + 0) mod 2 in [0, 0]",
             "fold (d0, d1, d2) -> ((d0 * 16 + d1 * 4 + d2) floordiv 8, (d0 * 16 + d1 * 4 + d2) mod 8), domain: d0 in [0, 1], d1 in [0, 3], d2 in [0, 3]",
+            "fold (d0, d1, d2) -> ((d0 * 16 + d1 * 4 + d2) floordiv 8, ((d0 * 16 + d1 * 4 + d2) floordiv 1) mod 8), domain: d0 in [0, 1], d1 in [0, 3], d2 in [0, 3]",
             "eval (d0) -> (d0 floordiv 7, d0 mod 7), domain: d0 in [-1, 0] at (-1)",
             "fold () -> (-1 floordiv 7, -1 mod 7)",
         ],
@@ -37,8 +41,10 @@ pub const MAPS: &[Group] = &[
             "fold (d0, d1, d2) -> ((d0 * 100 + d1 * 10 + d2) floordiv 100, ((d0 * 100 + d1 * 10 + d2) mod 100) floordiv 10, d2 mod 10), domain: d0 in [0, 9], d1 in [0, 9], d2 in [0, 9]",
             "fold (d0, d1, d2) -> ((d0 * 16 + d1 * 4 + d2) floordiv 8, (d0 * 16 + d1 * 4 + d2) mod 8), domain: d0 in [0, 9], d1 in [0, 9], d2 in [0, 9]",
             "fold (d0, d1) -> (-((d0 * -11 - d1 + 109) floordiv 11) + 9), domain: d0 in [0, 9], d1 in [0, 10]",
+            // The same without the parentheses: here - binds the sum before floordiv, and the outcome is another map.
             "fold (d0, d1) -> (-(d0 * -11 - d1 + 109) floordiv 11 + 9), domain: d0 in [0, 9], d1 in [0, 10]",
             "fold (d0)[s0] -> (d0), domain: d0 in [0, 5], s0 in [1, 3], d0 + s0 in [0, 20]",
+            // [10,10,10] to [50,20] and back: 000 prints d1 where our rules give (d1 floordiv 2) * 2 + d1 mod 2, equal in value.
             "fold (d0, d1, d2) -> (((d0 * 100 + d1 * 10 + d2) floordiv 20) floordiv 5, ((d0 * 100 + d1 * 10 + d2) floordiv 20) mod 5 * 2 + ((d0 * 100 + d1 * 10 + d2) mod 20) floordiv 10, ((d0 * 100 + d1 * 10 + d2) mod 20) mod 10), domain: d0 in [0, 9], d1 in [0, 9], d2 in [0, 9]",
         ],
     ),
