@@ -6,7 +6,7 @@ use Prim.Native.Nat.{ℕ, _^_}
 use lib.IntN.{ℤ, pos, negℤ}
 use Rattle.integer.specs.Gcd.{gcdOf}
 use Rattle.integer.proofs.Samples.{Agree}
-use Rattle.expression.specs.Expression.{Kind, d, Op, floordiv, modulo, Expr, Range, span, opOf, eqℤ, addRange, mulRange, opRange, rangeOf, everyNode, smallRanges}
+use Rattle.expression.specs.Expression.{Kind, d, s, rt, Op, floordiv, modulo, Expr, Range, span, opOf, eqℤ, addRange, mulRange, opRange, rangeOf, everyNode, smallRanges}
 use Rattle.expression.specs.Value.{pointOf, bounds}
 use Rattle.folding.specs.Sum.{Atom, Sum, atomRange, atomSize, termCount, thenBy, integerOrder, kindNumber, opNumber, atomOrder}
 use Rattle.folding.specs.Fold.{consTerm, placeTerm, insertTerm, addConstant, addSums, scaleSum, rule1, divides, partP, partR, oneQuotient, quotientOf, rule2}
@@ -108,7 +108,14 @@ twiceSamples =
     ∷ (foldSum narrowBounds (twice (Expr.mul (pos 8) (dim 0)) 3 8), divided dimSum 3)
     ∷ []
 
-pub fold-samples : Agree (joinSamples ++ sliceSamples ++ splitSamples ++ twiceSamples)
+-- the order of atoms: d, s, rt, then floordiv, then mod
+abbrev pub orderSamples : List (Sum × Sum)
+orderSamples =
+    (foldSum splitBounds (Expr.add (Expr.add (Expr.var rt 0) (Expr.var s 0)) (dim 0)), Sum.term (pos 1) (dimAtom 0) (Sum.term (pos 1) (Atom.var s 0) (oneTerm (pos 1) (Atom.var rt 0) (pos 0))))
+    ∷ (foldSum splitBounds (Expr.add (Expr.op modulo (dim 1) 2) (Expr.op floordiv (dim 1) 2)), Sum.term (pos 1) (halfAtom floordiv) (oneTerm (pos 1) (halfAtom modulo) (pos 0)))
+    ∷ []
+
+pub fold-samples : Agree (joinSamples ++ sliceSamples ++ splitSamples ++ twiceSamples ++ orderSamples)
 unfolding folds
 fold-samples = refl
 
