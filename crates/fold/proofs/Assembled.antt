@@ -33,7 +33,7 @@ use Rattle.encoding.proofs.Bounds.{bounds-length, bound-dimension, bound-range,
 use Rattle.encoding.proofs.Encoded.{nodes-append}
 use Rattle.encoding.proofs.Held.{holds-few}
 use Rattle.fold.specs.FoldMap.{exprAt, resultTrees, mapConstraints, mapBounds, foldedResults, foldedConstraints, foldedMap, smallFold, fewNodes, workRules, foldedWith, acceptedFold, noMap, foldedAnswer, foldAnswer}
-use Rattle.fold.specs.Ready.{Bounded, FoldsResults, FoldsConstraints}
+use Rattle.fold.specs.Ready.{Bounded, recordOf, FoldsResults, FoldsConstraints}
 use Rattle.fold.specs.declared.FoldedMap.{FoldedMap}
 use Rattle.fold.specs.declared.Progress.{Progress}
 use Rattle.fold.specs.declared.Remaining.{Remaining}
@@ -85,15 +85,15 @@ bounded m f l h = let c = counts m f in record { long = h; few-dims = c .dims; f
 
 -- ---- the record
 
-abbrev built : IndexingMap → List ℤ → List ℤ → ℕ → List ℕ → ℕ → List ℕ → List ℤ → List ℤ → List ℕ → List ℤ → FoldedMap
-built m lo hi n rs c cs los his ks vs =
+abbrev built : IndexingMap → ℕ → List ℕ → ℕ → List ℕ → List ℤ → List ℤ → List ℕ → List ℤ → FoldedMap
+built m n rs c cs los his ks vs =
     record {
       verdict = Done;
       map = record {
         dims = m .dims;
         ranges = m .ranges;
-        lower = lo;
-        upper = hi;
+        lower = boundsOf (m .dims) (m .ranges) (m .lower);
+        upper = boundsOf (m .dims) (m .ranges) (m .upper);
         results = n;
         «result_nodes» = rs;
         constraints = c;
@@ -105,15 +105,14 @@ built m lo hi n rs c cs los his ks vs =
       };
     }
 
-built-same : (m : IndexingMap) {lo hi lo' hi' : List ℤ} {n n' : ℕ} {rs rs' : List ℕ} {c c' : ℕ} {cs cs' : List ℕ} {los his los' his' : List ℤ} {ks ks' : List ℕ} {vs vs' : List ℤ}
-    → lo ≡ lo' → hi ≡ hi' → n ≡ n' → rs ≡ rs' → c ≡ c' → cs ≡ cs' → los ≡ los' → his ≡ his' → ks ≡ ks' → vs ≡ vs'
-    → built m lo hi n rs c cs los his ks vs ≡ built m lo' hi' n' rs' c' cs' los' his' ks' vs'
-built-same m {lo} {hi} {lo'} {hi'} {n} {n'} {rs} {rs'} {c} {c'} {cs} {cs'} {los} {his} {los'} {his'} {ks} {ks'} {vs} {vs'} a b d e f g h i j k =
-    ap₂ (λ x y. built m x y n rs c cs los his ks vs) a b
-    ∙ ap₂ (λ x y. built m lo' hi' x y c cs los his ks vs) d e
-    ∙ ap₂ (λ x y. built m lo' hi' n' rs' x y los his ks vs) f g
-    ∙ ap₂ (λ x y. built m lo' hi' n' rs' c' cs' x y ks vs) h i
-    ∙ ap₂ (λ x y. built m lo' hi' n' rs' c' cs' los' his' x y) j k
+built-same : (m : IndexingMap) {n n' : ℕ} {rs rs' : List ℕ} {c c' : ℕ} {cs cs' : List ℕ} {los his los' his' : List ℤ} {ks ks' : List ℕ} {vs vs' : List ℤ}
+    → n ≡ n' → rs ≡ rs' → c ≡ c' → cs ≡ cs' → los ≡ los' → his ≡ his' → ks ≡ ks' → vs ≡ vs'
+    → built m n rs c cs los his ks vs ≡ built m n' rs' c' cs' los' his' ks' vs'
+built-same m {n} {n'} {rs} {rs'} {c} {c'} {cs} {cs'} {los} {his} {los'} {his'} {ks} {ks'} {vs} {vs'} d e f g h i j k =
+    ap₂ (λ x y. built m x y c cs los his ks vs) d e
+    ∙ ap₂ (λ x y. built m n' rs' x y los his ks vs) f g
+    ∙ ap₂ (λ x y. built m n' rs' c' cs' x y ks vs) h i
+    ∙ ap₂ (λ x y. built m n' rs' c' cs' los' his' x y) j k
 
 -- ---- refused
 
@@ -162,27 +161,10 @@ module _ (m : IndexingMap) where
               length-append (nodesOf (foldedResults m)) (nodesOf (constraintTrees (foldedConstraints m))),
             )
 
-        pub assembled : (lo hi : List ℤ) → lo ≡ boundsOf (m .dims) (m .ranges) (m .lower) → hi ≡ boundsOf (m .dims) (m .ranges) (m .upper)
-            → _≡_ {A = FoldedMap} (record {
-              verdict = Done;
-              map = record {
-                dims = m .dims;
-                ranges = m .ranges;
-                lower = lo;
-                upper = hi;
-                results = m .results;
-                «result_nodes» = counts;
-                constraints = q .count;
-                «constraint_nodes» = nodes;
-                «constraint_lower» = lower;
-                «constraint_upper» = upper;
-                kinds = ks';
-                values = vs';
-              };
-            }) (acceptedFold m)
+        pub assembled : _≡_ {A = FoldedMap} (record { verdict = Done; map = recordOf m counts (q .count) nodes lower upper ks' vs' }) (acceptedFold m)
         unfolding foldedMap encodeMap fewNodes
-        assembled lo hi el eh =
-            built-same m el eh
+        assembled =
+            built-same m
             (sym (length-map (resultTrees m) (λ (e : Expr). foldTree (mapBounds m) e) ∙ listed-length (exprAt m) (m .results)))
             (f .counted small results-few) (g .count all) (g .counted (foldedResults m) (f .holds small) all count-few) (g .lows all) (g .highs all)
             (held .kinds) (held .values)

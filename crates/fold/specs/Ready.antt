@@ -16,7 +16,7 @@ use Rattle.folding.specs.Map.{Constraint, foldTree, isInside, smallTrees, const
 use Rattle.words.specs.Words.{sumWords}
 use Rattle.encoding.specs.Postfix.{postfix}
 use Rattle.encoding.specs.Written.{Kept, Written}
-use Rattle.encoding.specs.Encode.{filled, nodesOf, Holds}
+use Rattle.encoding.specs.Encode.{boundsOf, filled, nodesOf, Holds}
 use Rattle.rules.specs.Outcome.{maxTerms}
 use Rattle.fold.specs.FoldMap.{exprAt, constraintAt, resultTrees, mapConstraints, mapBounds, foldedResults, foldedConstraints}
 use Rattle.tree_sum.specs.declared.TreeSum.{TreeSum}
@@ -118,3 +118,21 @@ pub record Bounded (bounds : List ℤ) (dims ranges : ℕ) : Type 0 where
   pub long : length bounds ≡ maxPlaces
   pub few-dims : dims ≤ maxVariables
   pub few-ranges : ranges ≤ maxVariables
+
+-- the record of the variables of m and of results and constraints that stand in arrays
+abbrev pub recordOf : IndexingMap → List ℕ → ℕ → List ℕ → List ℤ → List ℤ → List ℕ → List ℤ → IndexingMap
+recordOf m counts count nodes lower upper kinds values =
+    record {
+      dims = m .dims;
+      ranges = m .ranges;
+      lower = boundsOf (m .dims) (m .ranges) (m .lower);
+      upper = boundsOf (m .dims) (m .ranges) (m .upper);
+      results = m .results;
+      «result_nodes» = counts;
+      constraints = count;
+      «constraint_nodes» = nodes;
+      «constraint_lower» = lower;
+      «constraint_upper» = upper;
+      kinds = kinds;
+      values = values;
+    }

@@ -14,7 +14,7 @@ ghost use Rattle.expression.specs.Node.{maxVariables, maxPlaces};
 ghost use Rattle.indexing.specs.Ready.{Accepted};
 ghost use Rattle.encoding.specs.Encode.{boundsOf};
 ghost use Rattle.fold.specs.FoldMap.{noMap, foldedWith, acceptedFold, foldedAnswer, foldAnswer};
-ghost use Rattle.fold.specs.Ready.{Space, Bounded, mapNodes, fewAtMost};
+ghost use Rattle.fold.specs.Ready.{Space, Bounded, recordOf, mapNodes, fewAtMost};
 
 // The most nodes of a map that is folded in the smaller work space.
 const FEW: usize = 64;
@@ -73,6 +73,36 @@ fn refused(refusal: Refusal) -> FoldedMap
     }
 }
 
+// The record of the variables of a map and of results and constraints that stand in arrays.
+fn folded_record(
+    m: IndexingMap,
+    counts: [usize; 8],
+    count: usize,
+    nodes: [usize; 32],
+    lower: [i64; 32],
+    upper: [i64; 32],
+    kinds: [u8; 256],
+    values: [i64; 256],
+) -> IndexingMap
+    requires { ⌜ Accepted m ⌝ }
+    ensures { λ r. ⌜ r ≡ recordOf m counts count nodes lower upper kinds values ⌝ }
+{
+    IndexingMap {
+        dims: m.dims,
+        ranges: m.ranges,
+        lower: kept_bounds(&m.lower, m.dims, m.ranges),
+        upper: kept_bounds(&m.upper, m.dims, m.ranges),
+        results: m.results,
+        result_nodes: counts,
+        constraints: count,
+        constraint_nodes: nodes,
+        constraint_lower: lower,
+        constraint_upper: upper,
+        kinds,
+        values,
+    }
+}
+
 // An accepted map folded, with room for the words of its sums: refused with 8 or 7.
 fn fold_in(m: IndexingMap, words: &mut [i64], scratch: &mut [i64]) -> FoldedMap
     requires { ⌜ Accepted m × Space m (now words) (now scratch) ⌝ }
@@ -107,22 +137,10 @@ fn fold_in(m: IndexingMap, words: &mut [i64], scratch: &mut [i64]) -> FoldedMap
     if expression::MAX_NODES < q.at {
         return refused(Refusal::CountLimit);
     }
+    let map = folded_record(m, counts, q.count, nodes, lower, upper, kinds, values);
     FoldedMap {
         verdict: Verdict::Done,
-        map: IndexingMap {
-            dims: m.dims,
-            ranges: m.ranges,
-            lower: kept_bounds(&m.lower, m.dims, m.ranges),
-            upper: kept_bounds(&m.upper, m.dims, m.ranges),
-            results: m.results,
-            result_nodes: counts,
-            constraints: q.count,
-            constraint_nodes: nodes,
-            constraint_lower: lower,
-            constraint_upper: upper,
-            kinds,
-            values,
-        },
+        map,
     }
 }
 

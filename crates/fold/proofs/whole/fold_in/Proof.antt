@@ -1,26 +1,21 @@
 -- `fold::whole::fold_in` meets its contract. Assumes nothing.
 use borrow.Author.Tests.{not-true, not-false}
 use borrow.Author.Needs.{needs}
-use mathlib.Core.Path.{_≡_, refl, _∙_}
+use mathlib.Core.Path.{refl, ap, _∙_}
 use native.Mathlib.Omega.{arith}
-use lib.ListN.{length}
-use Rattle.expression.specs.Node.{maxPlaces}
 use Rattle.encoding.proofs.Held.{holds-room}
-use Rattle.fold.proofs.Assembled.{bounded, results-large, constraints-large, nodes-many, assembled}
+use Rattle.refusal.specs.declared.Verdict.the-variants.{Done}
+use Rattle.indexing.specs.declared.IndexingMap.{IndexingMap}
+use Rattle.fold.specs.FoldMap.{foldedWith}
+use Rattle.fold.proofs.Assembled.{results-large, constraints-large, nodes-many, assembled}
+use Rattle.fold.proofs.whole.folded_record.Reads as folded-record-reads
 use Rattle.fold.proofs.whole.fold_in.Statement.{statement}
 use Rattle.fold.proofs.whole.fold_in.Tie as tie
 use Rattle.fold.proofs.whole.fold_in.Reads as reads
 use Rattle.fold.proofs.whole.fold_in.Lts as lts
-use Rattle.fold.proofs.whole.kept_bounds.Reads as kept-bounds-reads
 use Rattle.fold.proofs.whole.refused.Reads as refused-reads
 use Rattle.fold.proofs.parts.fold_constraints.Reads as fold-constraints-reads
 use Rattle.fold.proofs.parts.fold_results.Reads as fold-results-reads
-
-long-lower : (s : tie.Start) → length (s .args .t1 .lower) ≡ maxPlaces
-long-lower s = search needs
-
-long-upper : (s : tie.Start) → length (s .args .t1 .upper) ≡ maxPlaces
-long-upper s = search needs
 
 slice-aggregate-fold-results : tie.Need-slice-aggregate-fold-results
 slice-aggregate-fold-results c = search needs
@@ -48,7 +43,7 @@ returns c =
     let i = c .before in
     let fr = i .before .before .before .before .before .before in
     let s = fr .before .before .before .before .before .before in
-    c .refused .ensures ∙ results-large (s .args .t1) (fr .fold-results .ensures) (not-true _ (i .if1 .taken))
+    c .refused .ensures ∙ results-large (s .args .m) (fr .fold-results .ensures) (not-true _ (i .if1 .taken))
 
 slice-aggregate-fold-constraints : tie.Need-slice-aggregate-fold-constraints
 slice-aggregate-fold-constraints c = search needs
@@ -109,7 +104,7 @@ returns-2 c =
     let f1 = fc .before .before .before .before .before .before .before .before in
     let fr = f1 .before .before .before .before .before .before in
     let s = fr .before .before .before .before .before .before in
-    c .refused2 .ensures ∙ constraints-large (s .args .t1) (fr .fold-results .ensures) (not-false _ (f1 .if1 .left)) (fc .fold-constraints .ensures) (not-true _ (i .if2 .taken))
+    c .refused2 .ensures ∙ constraints-large (s .args .m) (fr .fold-results .ensures) (not-false _ (f1 .if1 .left)) (fc .fold-constraints .ensures) (not-true _ (i .if2 .taken))
 
 refused-requires-3 : tie.Need-refused-requires-3
 refused-requires-3 c κs = search needs
@@ -141,29 +136,20 @@ returns-3 c =
     let fr = f1 .before .before .before .before .before .before in
     let s = fr .before .before .before .before .before .before in
     c .refused3 .ensures
-    ∙ nodes-many (s .args .t1) (fr .fold-results .ensures) (not-false _ (f1 .if1 .left)) (fc .fold-constraints .ensures) (not-false _ (i .if2 .left)) (t .if3 .taken)
+    ∙ nodes-many (s .args .m) (fr .fold-results .ensures) (not-false _ (f1 .if1 .left)) (fc .fold-constraints .ensures) (not-false _ (i .if2 .left)) (t .if3 .taken)
 
-kept-bounds-requires : tie.Need-kept-bounds-requires
-kept-bounds-requires c κs =
-    let i = c .before .before .before .before .before in
+folded-record-requires : tie.Need-folded-record-requires
+folded-record-requires c κs =
+    let i = c .before .before in
     let fc = i .before .before .before .before .before .before .before .before in
     let f1 = fc .before .before .before .before .before .before .before .before in
     let fr = f1 .before .before .before .before .before .before in
     let s = fr .before .before .before .before .before .before in
-    bounded (s .args .t1) (s .pre .0 .formed) (s .args .t1 .lower) (long-lower s)
-
-kept-bounds-requires-2 : tie.Need-kept-bounds-requires-2
-kept-bounds-requires-2 c κs =
-    let i = c .before .before .before .before .before .before .before .before .before in
-    let fc = i .before .before .before .before .before .before .before .before in
-    let f1 = fc .before .before .before .before .before .before .before .before in
-    let fr = f1 .before .before .before .before .before .before in
-    let s = fr .before .before .before .before .before .before in
-    bounded (s .args .t1) (s .pre .0 .formed) (s .args .t1 .upper) (long-upper s)
+    s .pre .0
 
 same-length-7 : tie.Need-same-length-7
 same-length-7 c =
-    let i = c .before .before .before .before .before .before .before .before .before .before in
+    let i = c .before .before .before in
     let fc = i .before .before .before .before .before .before .before .before in
     let f1 = fc .before .before .before .before .before .before .before .before in
     let fr = f1 .before .before .before .before .before .before in
@@ -172,7 +158,7 @@ same-length-7 c =
 
 same-length-8 : tie.Need-same-length-8
 same-length-8 c =
-    let i = c .before .before .before .before .before .before .before .before .before .before in
+    let i = c .before .before .before in
     let fc = i .before .before .before .before .before .before .before .before in
     let f1 = fc .before .before .before .before .before .before .before .before in
     let fr = f1 .before .before .before .before .before .before in
@@ -181,15 +167,14 @@ same-length-8 c =
 
 returns-4 : tie.Need-returns-4
 returns-4 c =
-    let k = c .before .before .before .before in
-    let t = k .before .before .before .before in
+    let t = c .before in
     let i = t .before .before in
     let fc = i .before .before .before .before .before .before .before .before in
     let f1 = fc .before .before .before .before .before .before .before .before in
     let fr = f1 .before .before .before .before .before .before in
     let s = fr .before .before .before .before .before .before in
-    assembled (s .args .t1) (fr .fold-results .ensures) (not-false _ (f1 .if1 .left)) (fc .fold-constraints .ensures) (not-false _ (i .if2 .left)) (omega (arith, t .if3 .left))
-    _ _ (k .kept-bounds .ensures) (c .kept-bounds2 .ensures)
+    ap (λ (r : IndexingMap). foldedWith Done r) (c .folded-record .ensures)
+    ∙ assembled (s .args .m) (fr .fold-results .ensures) (not-false _ (f1 .if1 .left)) (fc .fold-constraints .ensures) (not-false _ (i .if2 .left)) (omega (arith, t .if3 .left))
 
 pub fold-in-spec : {M : Type 1} → statement M
 fold-in-spec =
@@ -217,8 +202,7 @@ fold-in-spec =
     same-length-5
     same-length-6
     returns-3
-    kept-bounds-requires
-    kept-bounds-requires-2
+    folded-record-requires
     same-length-7
     same-length-8
     returns-4)
