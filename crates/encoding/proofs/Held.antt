@@ -1,18 +1,19 @@
 -- Trees written one after another fill the arrays of the record that is made of them. Assumes nothing.
 use mathlib.Core.Path.{_≡_, refl, sym, ap, _∙_}
 use mathlib.Core.List.{List, [], _∷_, _++_, map, append-nil}
-use Prim.Native.Nat.{ℕ, _+_, _≤_, min}
+use Prim.Native.Nat.{ℕ, _+_, _-_, _≤_, min}
 use native.Mathlib.Omega.{arith}
 use lib.IntN.{ℤ, pos}
 use lib.ListN.{length, replicate, length-append, length-map, length-replicate}
 use lib.Seq.{sets}
-use Rattle.expression.specs.Expression.{Expr}
+use Rattle.expression.specs.Expression.{Expr, nodeCount}
 use Rattle.expression.specs.Node.{maxNodes}
 use Rattle.expression.specs.declared.Node.{Node}
 use Rattle.encoding.specs.Postfix.{postfix, kindOf, valueOf}
 use Rattle.encoding.specs.Written.{counted, Room, Written}
 use Rattle.encoding.specs.Encode.{nodesOf, filled, Holds}
 use Rattle.encoding.proofs.Lists.{map-append}
+use Rattle.encoding.proofs.Reading.{postfix-length}
 use Rattle.encoding.proofs.Stored.{sets-then}
 use Rattle.encoding.proofs.Filled.{filled-length}
 use Rattle.encoding.proofs.Encoded.{nodes-append}
@@ -52,3 +53,11 @@ module _ {es : List Expr} {ks : List ℕ} {vs : List ℤ} {at : ℕ} (h : Holds 
           values = array valueOf (pos 0) vs vs' (h .values) (w .values);
           nodes = omega (arith, h .nodes, w .nodes, ap (λ (l : List Node). length l) more, length-append (nodesOf es) (postfix e));
         }
+
+-- the number of nodes of one tree more is the difference of two places
+pub count-next : (es : List Expr) (e : Expr) {ks ks' : List ℕ} {vs vs' : List ℤ} (at r : ℕ) → Holds es ks vs at → Written (postfix e) ks ks' vs vs' at r
+    → length (nodesOf (es ++ (e ∷ []))) ≤ maxNodes → (length (nodesOf es) ≤ maxNodes) × (r - at ≡ nodeCount e)
+count-next es e at r h w k =
+    let l : length (nodesOf (es ++ (e ∷ []))) ≡ length (nodesOf es) + length (postfix e) =
+    ap (λ (x : List Node). length x) (nodes-append es (e ∷ []) ∙ ap (λ (x : List Node). nodesOf es ++ x) (append-nil (postfix e))) ∙ length-append (nodesOf es) (postfix e) in
+    (omega (arith, l), omega (arith, l, h .nodes, w .nodes, postfix-length e))

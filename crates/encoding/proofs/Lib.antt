@@ -6,8 +6,13 @@ pub mod Stored
 pub mod Emitted
 pub mod Filled
 pub mod Bounds
+pub mod KeptBounds
+pub mod SameBounds
 pub mod Encoded
 pub mod Held
 pub mod Unique
+pub mod Listed
+pub mod Trees
+pub mod AtPoint
 pub mod Theorems
 pub mod Samples

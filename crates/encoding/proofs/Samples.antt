@@ -4,13 +4,28 @@ use mathlib.Core.List.{List, [], _∷_, map}
 use Prim.Native.Nat.{ℕ}
 use lib.IntN.{ℤ, pos, negℤ}
 use Rattle.integer.proofs.Samples.{Agree}
-use Rattle.expression.specs.Expression.{d, s, Op, floordiv, modulo, Expr, nodeCount, span, eqℤ}
+use Rattle.expression.specs.Expression.{d, s, Op, floordiv, modulo, Expr, nodeCount, span, eqℤ, addRange, mulRange, opRange, rangeOf, everyNode, smallRanges}
+use Rattle.expression.specs.Node.{nodeOf, nodesAt}
+use Rattle.expression.specs.Machine.{walk}
+use Rattle.expression.specs.Decode.{decode}
+use Rattle.expression.specs.Value.{pointOf, bounds}
+use Rattle.indexing.specs.Map.{goodIntervals, startOf, countIn, treeAt, goodBounds, goodEnds, goodTrees, goodParts, goodCounts, goodRanges}
 use Rattle.folding.specs.Sum.{Atom, Sum}
 use Rattle.folding.specs.Fold.{termTree, constantTree, sumTree}
 use Rattle.indexing.specs.declared.IndexingMap.{IndexingMap}
 use Rattle.indexing.proofs.Samples.{slice}
 use Rattle.encoding.specs.Postfix.{postfix, kindOf, valueOf}
 use Rattle.encoding.specs.Encode.{encodeMap}
+use Rattle.encoding.specs.Trees.{listed}
+
+-- the line `unfolding reads-maps` opens all that making, judging and reading a record computes with
+unfoldable reads : Unit {0}
+unfolding goodParts goodBounds goodEnds goodTrees goodCounts goodRanges goodIntervals startOf countIn treeAt decode walk nodesAt nodeOf listed
+reads = tt
+
+unfoldable pub reads-maps : Unit {0}
+unfolding reads rangeOf smallRanges everyNode addRange mulRange opRange eqℤ bounds pointOf postfix nodeCount encodeMap
+reads-maps = tt
 
 -- d0 + -2 * s1 + 5, d0, 0, and (3 * d0) floordiv 4
 abbrev pub sums : List Sum

@@ -8,7 +8,7 @@ use lib.ListN.{length, take, drop, replicate}
 use lib.Seq.{sets}
 use Rattle.integer.specs.Exact.{limit}
 use Rattle.expression.specs.Expression.{Kind, Expr, nodeCount, Range, smallRanges}
-use Rattle.expression.specs.Node.{maxVariables, maxNodes}
+use Rattle.expression.specs.Node.{maxVariables, maxPlaces, maxNodes}
 use Rattle.expression.specs.declared.Node.{Node}
 use Rattle.indexing.specs.Map.{maxResults, maxConstraints, goodInterval}
 use Rattle.indexing.specs.declared.IndexingMap.{IndexingMap}
@@ -39,22 +39,34 @@ boundsOf dims ranges l =
     filled maxVariables (pos 0) (take dims l)
     ++ (filled maxVariables (pos 0) (take ranges (drop maxVariables l)) ++ replicate maxVariables (pos 0))
 
-unfoldable pub encodeMap : ℕ → ℕ → List ℤ → List ℤ → List Expr → List Constraint → IndexingMap
-encodeMap dims ranges lower upper results constraints =
+-- the record made of parts: bounds by places, numbers of nodes, ends and nodes that stand in arrays
+abbrev pub recordOf : ℕ → ℕ → List ℤ → List ℤ → ℕ → List ℕ → ℕ → List ℕ → List ℤ → List ℤ → List ℕ → List ℤ → IndexingMap
+recordOf dims ranges lower upper results counts constraints nodes lows highs kinds values =
     record {
       dims = dims;
       ranges = ranges;
       lower = boundsOf dims ranges lower;
       upper = boundsOf dims ranges upper;
-      results = length results;
-      «result_nodes» = filled maxResults 0 (map nodeCount results);
-      constraints = length constraints;
-      «constraint_nodes» = filled maxConstraints 0 (map (λ (c : Constraint). nodeCount (c .expr)) constraints);
-      «constraint_lower» = filled maxConstraints (pos 0) (map (λ (c : Constraint). c .interval .lo) constraints);
-      «constraint_upper» = filled maxConstraints (pos 0) (map (λ (c : Constraint). c .interval .hi) constraints);
-      kinds = filled maxNodes 0 (map kindOf (nodesOf (treesOf results constraints)));
-      values = filled maxNodes (pos 0) (map valueOf (nodesOf (treesOf results constraints)));
+      results = results;
+      «result_nodes» = counts;
+      constraints = constraints;
+      «constraint_nodes» = nodes;
+      «constraint_lower» = lows;
+      «constraint_upper» = highs;
+      kinds = kinds;
+      values = values;
     }
+
+-- the record made of trees
+unfoldable pub encodeMap : ℕ → ℕ → List ℤ → List ℤ → List Expr → List Constraint → IndexingMap
+encodeMap dims ranges lower upper results constraints =
+    recordOf dims ranges lower upper
+    (length results) (filled maxResults 0 (map nodeCount results))
+    (length constraints) (filled maxConstraints 0 (map (λ (c : Constraint). nodeCount (c .expr)) constraints))
+    (filled maxConstraints (pos 0) (map (λ (c : Constraint). c .interval .lo) constraints))
+    (filled maxConstraints (pos 0) (map (λ (c : Constraint). c .interval .hi) constraints))
+    (filled maxNodes 0 (map kindOf (nodesOf (treesOf results constraints))))
+    (filled maxNodes (pos 0) (map valueOf (nodesOf (treesOf results constraints))))
 
 -- ---- what a record gives back
 
@@ -89,3 +101,21 @@ pub record Holds (es : List Expr) (ks : List ℕ) (vs : List ℤ) (at : ℕ) : T
   pub kinds : ks ≡ filled maxNodes 0 (map kindOf (nodesOf es))
   pub values : vs ≡ filled maxNodes (pos 0) (map valueOf (nodesOf es))
   pub nodes : at ≡ min (length (nodesOf es)) counted
+
+-- arrays that hold nothing yet: numbers of nodes of results, kinds and values
+pub record Zeros (counts kinds : List ℕ) (values : List ℤ) : Type 0 where
+  pub counts-zero : counts ≡ replicate maxResults 0
+  pub kinds-zero : kinds ≡ replicate maxNodes 0
+  pub values-zero : values ≡ replicate maxNodes (pos 0)
+
+-- numbers of nodes of constraints, and their ends
+pub record ConstraintZeros (counts : List ℕ) (lower upper : List ℤ) : Type 0 where
+  pub counts-zero : counts ≡ replicate maxConstraints 0
+  pub lower-zero : lower ≡ replicate maxConstraints (pos 0)
+  pub upper-zero : upper ≡ replicate maxConstraints (pos 0)
+
+-- bounds by places, and counts that keep their limits
+pub record Bounded (bounds : List ℤ) (dims ranges : ℕ) : Type 0 where
+  pub long : length bounds ≡ maxPlaces
+  pub few-dims : dims ≤ maxVariables
+  pub few-ranges : ranges ≤ maxVariables

@@ -2,3 +2,4 @@
 pub mod Postfix
 pub mod Written
 pub mod Encode
+pub mod Trees

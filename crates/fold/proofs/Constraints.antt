@@ -22,17 +22,17 @@ use Rattle.words.proofs.Tests.{clash}
 use Rattle.expression.specs.Expression.{nodeCount}
 use Rattle.encoding.specs.Postfix.{postfix}
 use Rattle.encoding.specs.Written.{Room, Written, EmitsSum}
-use Rattle.encoding.specs.Encode.{filled, nodesOf, Holds}
+use Rattle.encoding.specs.Encode.{filled, nodesOf, Holds, ConstraintZeros}
 use Rattle.encoding.proofs.Lists.{map-append}
 use Rattle.encoding.proofs.Stored.{nothing}
 use Rattle.encoding.proofs.Filled.{filled-next}
-use Rattle.encoding.proofs.Held.{holds-next}
-use Rattle.fold.specs.FoldMap.{listed, constraintAt, mapBounds}
-use Rattle.fold.specs.Ready.{FoldsRun, isGone, Goes, FoldsConstraint, ConstraintZeros, Stays, FoldsConstraints}
+use Rattle.encoding.proofs.Held.{holds-next, count-next}
+use Rattle.encoding.specs.Trees.{listed, constraintAt, mapBounds}
+use Rattle.fold.specs.Ready.{FoldsRun, isGone, Goes, FoldsConstraint, Stays, FoldsConstraints}
 use Rattle.tree_sum.specs.declared.TreeSum.{TreeSum}
 use Rattle.fold.specs.declared.FoldedConstraint.{FoldedConstraint}
-use Rattle.fold.proofs.Results.{sum-stands, small-next, small-not, count-next}
-use Rattle.fold.proofs.Listed.{listed-map}
+use Rattle.fold.proofs.Results.{sum-stands, small-next, small-not}
+use Rattle.encoding.proofs.Listed.{listed-map}
 
 -- ---- the interval
 

@@ -15,10 +15,12 @@ use Rattle.folding.specs.Map.{Constraint, constraintTrees, foldResults, foldCon
 use Rattle.folding.proofs.Map.{AllTrees, all-trees, trees-small}
 use Rattle.folding.proofs.Theorems.{GoodTree, accepted-again, same-results-again, same-constraints-again}
 use Rattle.encoding.specs.Encode.{treesOf, nodesOf, encodeMap}
-use Rattle.fold.specs.FoldMap.{resultTrees, mapConstraints, mapBounds, foldedResults, foldedConstraints, foldedMap, smallFold, fewNodes, noMap, foldAnswer}
+use Rattle.indexing.specs.Answers.{noMap}
+use Rattle.encoding.specs.Trees.{resultTrees, mapConstraints, mapBounds}
+use Rattle.fold.specs.FoldMap.{foldedResults, foldedConstraints, foldedMap, smallFold, fewNodes, foldAnswer}
 use Rattle.fold.proofs.BoundsRead.{results-same, constraints-same, small-trees-same}
-use Rattle.fold.proofs.Bounds.{record-same}
-use Rattle.fold.proofs.Trees.{Read, results-read, constraints-read}
+use Rattle.encoding.proofs.SameBounds.{record-same}
+use Rattle.encoding.proofs.Trees.{Read, results-read, constraints-read}
 use Rattle.fold.proofs.Folded.{Folds, folds-done, all-left, all-right, folded-all, folded-proper-all, folded-accepted}
 use Rattle.fold.proofs.Points.{folded-results-are, folded-constraints-are, dimension-is, range-is, bounds-are}
 

@@ -31,9 +31,10 @@ use Rattle.folding.proofs.Theorems.{GoodTree, folded-ranges, folded-numbers, fo
 use Rattle.encoding.specs.Postfix.{Encodable}
 use Rattle.encoding.specs.Encode.{treesOf, nodesOf, encodeMap, AllEncodable, Fitting, allOf, intervalsGood}
 use Rattle.encoding.proofs.Encoded.{encoded-parts, encoded-counts, encoded-ranges}
-use Rattle.fold.specs.FoldMap.{listed, constraintAt, resultTrees, mapConstraints, mapBounds, foldedResults, foldedConstraints, foldedMap, smallFold, fewNodes, foldRules}
-use Rattle.fold.proofs.Listed.{listed-length, all-append}
-use Rattle.fold.proofs.Trees.{Read, results-read, constraints-read}
+use Rattle.encoding.specs.Trees.{listed, constraintAt, resultTrees, mapConstraints, mapBounds}
+use Rattle.fold.specs.FoldMap.{foldedResults, foldedConstraints, foldedMap, smallFold, fewNodes, foldRules}
+use Rattle.encoding.proofs.Listed.{listed-length, all-append}
+use Rattle.encoding.proofs.Trees.{Read, results-read, constraints-read}
 
 -- no rule of folding is broken
 pub record Folds (m : IndexingMap) : Type 0 where

@@ -1,8 +1,5 @@
 -- The laws that the proofs and other crates cite, the theorems and the samples.
-pub mod Listed
 pub mod BoundsRead
-pub mod Trees
-pub mod Bounds
 pub mod Folded
 pub mod Points
 pub mod FoldAgain

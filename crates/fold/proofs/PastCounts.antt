@@ -20,11 +20,13 @@ use Rattle.indexing.proofs.Unread.{tree-same, parts-same, counts-same, ranges-s
 use Rattle.folding.specs.Map.{Constraint, constraintTrees, foldResults, foldConstraints, smallTrees}
 use Rattle.folding.proofs.Map.{AllTrees, all-trees}
 use Rattle.encoding.specs.Encode.{treesOf, nodesOf, encodeMap}
-use Rattle.fold.specs.FoldMap.{listed, exprOf, exprAt, constraintAt, resultTrees, mapConstraints, mapBounds, foldedResults, foldedConstraints, foldedMap, smallFold, fewNodes, foldRules, noMap, foldAnswer}
-use Rattle.fold.proofs.Listed.{listed-same, all-append}
+use Rattle.indexing.specs.Answers.{noMap}
+use Rattle.encoding.specs.Trees.{listed, exprOf, exprAt, constraintAt, resultTrees, mapConstraints, mapBounds}
+use Rattle.fold.specs.FoldMap.{foldedResults, foldedConstraints, foldedMap, smallFold, fewNodes, foldRules, foldAnswer}
+use Rattle.encoding.proofs.Listed.{listed-same, all-append}
 use Rattle.fold.proofs.BoundsRead.{results-same, constraints-same, small-trees-same}
-use Rattle.fold.proofs.Bounds.{record-same, variable-same}
-use Rattle.fold.proofs.Trees.{Read, runs-all, results-read, constraints-read}
+use Rattle.encoding.proofs.SameBounds.{record-same, variable-same}
+use Rattle.encoding.proofs.Trees.{Read, runs-all, results-read, constraints-read}
 
 module _ (m n : IndexingMap) (a : Alike m n) where
   -- ---- where 2 and 7 do not apply

@@ -20,7 +20,7 @@ use Rattle.expression.specs.Expression.{Kind, d, s, Expr, span, In, eval}
 use Rattle.expression.specs.Node.{maxVariables}
 use Rattle.expression.specs.Value.{pointOf, bounds, treeValue}
 use Rattle.expression.proofs.Within.{Proper, Inside}
-use Rattle.indexing.specs.Map.{maxResults, valueAt, areIn, inBounds, inDomain, Domain, SameAt}
+use Rattle.indexing.specs.Map.{maxResults, valueAt, rightLength, areIn, inBounds, inDomain, Domain, SameAt}
 use Rattle.indexing.specs.Ready.{Formed, Accepted}
 use Rattle.indexing.specs.Answers.{valuesOf, pointRules, resultValues}
 use Rattle.indexing.specs.declared.IndexingMap.{IndexingMap}
@@ -32,55 +32,13 @@ use Rattle.folding.proofs.Map.{AllTrees, all-trees, tree-value, holds-folded, f
 use Rattle.encoding.specs.Encode.{encodeMap}
 use Rattle.encoding.proofs.Lists.{map-at}
 use Rattle.encoding.proofs.Encoded.{encoded-dimension, encoded-range}
-use Rattle.fold.specs.FoldMap.{listed, exprAt, constraintAt, resultTrees, mapConstraints, mapBounds, foldedResults, foldedConstraints, foldedMap}
-use Rattle.fold.proofs.Listed.{listed-length, listed-at}
-use Rattle.fold.proofs.Bounds.{variable-same}
-use Rattle.fold.proofs.Trees.{Read, tree-is, expr-read, constraints-read, made-results, made-constraints}
+use Rattle.encoding.specs.Trees.{listed, exprAt, constraintAt, resultTrees, mapConstraints, mapBounds}
+use Rattle.fold.specs.FoldMap.{foldedResults, foldedConstraints, foldedMap}
+use Rattle.encoding.proofs.Listed.{listed-length, listed-at}
+use Rattle.encoding.proofs.SameBounds.{variable-same}
+use Rattle.encoding.proofs.AtPoint.{value-of, domain-holds, holds-at}
+use Rattle.encoding.proofs.Trees.{Read, expr-read, constraints-read, made-results, made-constraints}
 use Rattle.fold.proofs.Folded.{Folds, result-count, fitting, folded-accepted}
-
--- ---- constraints one by one
-
-module _ (ρ : Kind → ℕ → ℤ) where
-  abbrev InInterval : Constraint → Type 0
-  InInterval c = In (eval ρ (c .expr)) (c .interval)
-
-  holds-next : (xs : List Constraint) (x : Constraint) → Holds ρ xs → InInterval x → Holds ρ (xs ++ (x ∷ []))
-  unfolding Holds
-  holds-next [] x h k = (k, tt)
-  holds-next (y ∷ xs) x h k = (h .0, holds-next xs x (h .1) k)
-
-  holds-before : (xs : List Constraint) (x : Constraint) → Holds ρ (xs ++ (x ∷ [])) → Holds ρ xs × InInterval x
-  unfolding Holds
-  holds-before [] x h = (tt, h .0)
-  holds-before (y ∷ xs) x h = let w = holds-before xs x (h .1) in ((h .0, w .0), w .1)
-
-  listed-holds : (f : ℕ → Constraint) (n : ℕ) → ((k : ℕ) → k < n → InInterval (f k)) → Holds ρ (listed f n)
-  unfolding listed Holds
-  listed-holds f zero h = tt
-  listed-holds f (suc n) h = holds-next (listed f n) (f n) (listed-holds f n (λ k l. h k (omega arith))) (h n (omega arith))
-
-  holds-listed : (f : ℕ → Constraint) (n : ℕ) → Holds ρ (listed f n) → (k : ℕ) → k < n → InInterval (f k)
-  unfolding listed
-  holds-listed f zero h k l = absurd (omega arith)
-  holds-listed f (suc n) h k l =
-      let w = holds-before (listed f n) (f n) h in
-      ⊎-elim (λ (q : k ≡ n). subst (λ (i : ℕ). InInterval (f i)) (sym q) (w .1)) (λ (q : k < n). holds-listed f n (w .0) k q) (eq-or-lt-of-le (le-of-suc-le-suc l))
-
--- ---- a map that is formed, at a point
-
-module _ (m : IndexingMap) (f : Formed m) (ds ss : List ℤ) where
-  pub value-of : (i : ℕ) → i < m .results + m .constraints → valueAt m ds ss i ≡ eval (pointOf ds ss) (exprAt m i)
-  value-of i h = ap (treeValue ds ss) (tree-is m f i h)
-
-  domain-holds : Domain m ds ss → Holds (pointOf ds ss) (mapConstraints m)
-  domain-holds h =
-      listed-holds (pointOf ds ss) (constraintAt m) (m .constraints)
-      (λ k l. subst (λ (z : ℤ). In z (constraintAt m k .interval)) (value-of (m .results + k) (omega arith)) (h .holds k l))
-
-  holds-at : Holds (pointOf ds ss) (mapConstraints m) → (k : ℕ) → k < m .constraints → In (valueAt m ds ss (m .results + k)) (constraintAt m k .interval)
-  holds-at h k l =
-      subst (λ (z : ℤ). In z (constraintAt m k .interval)) (sym (value-of (m .results + k) (omega arith)))
-      (holds-listed (pointOf ds ss) (constraintAt m) (m .constraints) h k l)
 
 -- a point inside the bounds
 point-inside : (m : IndexingMap) (ds ss : List ℤ) → inBounds m ds ss ≡ true → Inside (m .dims) (m .ranges) (mapBounds m) (pointOf ds ss)
@@ -97,7 +55,7 @@ point-inside m ds ss e =
 
 domain-inside : (m : IndexingMap) (ds ss : List ℤ) → Domain m ds ss → inBounds m ds ss ≡ true
 unfolding inDomain
-domain-inside m ds ss h = and-left (inBounds m ds ss) _ (domain-is m ds ss .1 h)
+domain-inside m ds ss h = and-left (inBounds m ds ss) _ (and-right (rightLength m ds ss) _ (domain-is m ds ss .1 h))
 
 same-test : (a b : Bool) → (a ≡ true → b ≡ true) → (b ≡ true → a ≡ true) → a ≡ b
 same-test true b f g = sym (f refl)
@@ -173,6 +131,8 @@ module _ (m : IndexingMap) (w : Folds m) where
     domain-folded : Domain m ds ss → Domain (foldedMap m) ds ss
     domain-folded h =
         record {
+          long-dims = h .long-dims ∙ sym dims-are;
+          long-ranges = h .long-ranges ∙ sym ranges-are;
           dims = λ n l. let k : n < m .dims = omega (arith, dims-are) in rw (dimension-is n k .0, dimension-is n k .1) (h .dims n k);
           ranges = λ n l. let k : n < m .ranges = omega (arith, ranges-are) in rw (range-is n k .0, range-is n k .1) (h .ranges n k);
           holds =
@@ -184,7 +144,14 @@ module _ (m : IndexingMap) (w : Folds m) where
 
     folded-domain : Domain (foldedMap m) ds ss → Domain m ds ss
     unfolding Proper
-    folded-domain h = record { dims = dimension; ranges = range; holds = holds-at m given ds ss constraints }
+    folded-domain h =
+        record {
+          long-dims = h .long-dims ∙ dims-are;
+          long-ranges = h .long-ranges ∙ ranges-are;
+          dims = dimension;
+          ranges = range;
+          holds = holds-at m given ds ss constraints;
+        }
       where
         dimension : (n : ℕ) → n < m .dims → In (getD ds n (pos 0)) (span (getD (m .lower) n (pos 0)) (getD (m .upper) n (pos 0)))
         dimension n l =
@@ -234,7 +201,7 @@ module _ (m : IndexingMap) (w : Folds m) where
     verdict long inside = unless long WrongLength (unless inside Outside Done)
 
     judged : (n : IndexingMap) → Accepted n
-        → judge (pointRules n ds ss) ≡ verdict (eqb (length ds) (n .dims) && eqb (length ss) (n .ranges)) (inDomain n ds ss)
+        → judge (pointRules n ds ss) ≡ verdict (rightLength n ds ss) (inDomain n ds ss)
     judged n a = rw (a .formed .parts, a .formed .counts, a .ranges)
 
     pub answer-same : resultValues (foldedMap m) ds ss ≡ resultValues m ds ss
@@ -242,14 +209,14 @@ module _ (m : IndexingMap) (w : Folds m) where
     answer-same =
         ap (λ (v : Verdict). answered zeros v (values (foldedMap m))) (judged (foldedMap m) (folded-accepted m w))
         ∙ ap (λ (v : Verdict). answered zeros v (values (foldedMap m))) verdicts
-        ∙ go (eqb (length ds) (m .dims) && eqb (length ss) (m .ranges)) (inDomain m ds ss) refl
+        ∙ go (rightLength m ds ss) (inDomain m ds ss) refl
         ∙ ap (λ (v : Verdict). answered zeros v (values m)) (sym (judged m (w .accepted)))
       where
         zeros : List ℤ
         zeros = replicate (1 + maxResults) (pos 0)
 
-        verdicts : verdict (eqb (length ds) (foldedMap m .dims) && eqb (length ss) (foldedMap m .ranges)) (inDomain (foldedMap m) ds ss)
-            ≡ verdict (eqb (length ds) (m .dims) && eqb (length ss) (m .ranges)) (inDomain m ds ss)
+        verdicts : verdict (rightLength (foldedMap m) ds ss) (inDomain (foldedMap m) ds ss)
+            ≡ verdict (rightLength m ds ss) (inDomain m ds ss)
         verdicts = ap₂ verdict (ap₂ (λ (x y : ℕ). eqb (length ds) x && eqb (length ss) y) dims-are ranges-are) in-domain-same
 
         go : (long inside : Bool) → inDomain m ds ss ≡ inside → answered zeros (verdict long inside) (values (foldedMap m)) ≡ answered zeros (verdict long inside) (values m)

@@ -1,16 +1,16 @@
 -- Runs folded one after another: what is judged, what is written and what is counted. Assumes nothing.
 use mathlib.Core.Path.{_≡_, refl, sym, ap, ap₂, _∙_, subst}
 use mathlib.Core.Bool.{Bool, true, false, _&&_}
-use mathlib.Core.List.{List, [], _∷_, _++_, map, append-nil}
+use mathlib.Core.List.{List, [], _∷_, _++_, map}
 use Prim.Native.Nat.{ℕ, zero, suc, _+_, _-_, _<_, _≤_}
 use native.Mathlib.Omega.{arith}
 use native.Mathlib.Nat.{le-of-suc-le-suc, eq-or-lt-of-le}
 use mathlib.Core.Logic.{⊎-elim}
 use lib.IntN.{ℤ}
-use lib.ListN.{length, drop, set, length-append, length-map}
+use lib.ListN.{length, drop, set, length-map}
+use Rattle.radix.proofs.Tests.{and-true, and-false}
 use Rattle.expression.specs.Expression.{Kind, Expr, Range}
 use Rattle.expression.specs.Node.{maxNodes}
-use Rattle.expression.specs.declared.Node.{Node}
 use Rattle.indexing.specs.Map.{maxResults}
 use Rattle.indexing.specs.declared.IndexingMap.{IndexingMap}
 use Rattle.folding.specs.Fold.{foldSum}
@@ -21,18 +21,16 @@ use Rattle.words.proofs.Tests.{clash}
 use Rattle.expression.specs.Expression.{nodeCount}
 use Rattle.encoding.specs.Postfix.{postfix}
 use Rattle.encoding.specs.Written.{counted, Room, Written, EmitsSum}
-use Rattle.encoding.specs.Encode.{filled, nodesOf, Holds}
+use Rattle.encoding.specs.Encode.{filled, nodesOf, Holds, Zeros}
 use Rattle.encoding.proofs.Lists.{map-append}
-use Rattle.encoding.proofs.Reading.{postfix-length}
 use Rattle.encoding.proofs.Filled.{filled-next}
-use Rattle.encoding.proofs.Encoded.{nodes-append}
-use Rattle.encoding.proofs.Held.{holds-none, holds-next}
-use Rattle.fold.specs.FoldMap.{listed, exprAt, mapBounds}
-use Rattle.fold.specs.Ready.{FoldsRun, WritesRun, Zeros, FoldsResults}
+use Rattle.encoding.proofs.Held.{holds-none, holds-next, count-next}
+use Rattle.encoding.specs.Trees.{listed, exprAt, mapBounds}
+use Rattle.fold.specs.Ready.{FoldsRun, WritesRun, FoldsResults}
 use Rattle.tree_sum.specs.declared.TreeSum.{TreeSum}
 use Rattle.fold.specs.declared.Progress.{Progress}
 use Rattle.rules.proofs.Standing.{sum-rest, front-stands}
-use Rattle.fold.proofs.Listed.{listed-length}
+use Rattle.encoding.proofs.Listed.{listed-length}
 
 -- ---- one run
 
@@ -80,18 +78,11 @@ small-one β e = last (smallWorking β e)
     last true = refl
     last false = refl
 
-pub and-true : (a b : Bool) → a ≡ true → b ≡ true → (a && b) ≡ true
-and-true a b e f = ap₂ (λ (x y : Bool). x && y) e f
-
-pub and-false : (a b : Bool) → b ≡ false → (a && b) ≡ false
-and-false true b e = e
-and-false false b e = refl
-
 module _ (β : Kind → ℕ → Range) (f : ℕ → Expr) where
   -- one more is small
   pub small-next : (n : ℕ) → smallTrees β (listed f n) ≡ true → smallWorking β (f n) ≡ true → smallTrees β (listed f (suc n)) ≡ true
   unfolding listed
-  small-next n h e = small-append β (listed f n) (f n ∷ []) ∙ and-true (smallTrees β (listed f n)) (smallTrees β (f n ∷ [])) h (small-one β (f n) ∙ e)
+  small-next n h e = small-append β (listed f n) (f n ∷ []) ∙ and-true h (small-one β (f n) ∙ e)
 
   -- one that is not small is in the list
   pub small-not : (i n : ℕ) → i < n → smallWorking β (f i) ≡ false → smallTrees β (listed f n) ≡ false
@@ -100,17 +91,9 @@ module _ (β : Kind → ℕ → Range) (f : ℕ → Expr) where
   small-not i (suc n) h e =
       small-append β (listed f n) (f n ∷ [])
       ∙ ⊎-elim
-      (λ (q : i ≡ n). and-false (smallTrees β (listed f n)) (smallTrees β (f n ∷ [])) (small-one β (f n) ∙ subst (λ (k : ℕ). smallWorking β (f k) ≡ false) q e))
+      (λ (q : i ≡ n). and-false (smallTrees β (listed f n)) (small-one β (f n) ∙ subst (λ (k : ℕ). smallWorking β (f k) ≡ false) q e))
       (λ q. ap (λ (b : Bool). b && smallTrees β (f n ∷ [])) (small-not i n q e))
       (eq-or-lt-of-le (le-of-suc-le-suc h))
-
--- the number of nodes of one tree more is the difference of two places
-pub count-next : (es : List Expr) (e : Expr) {ks ks' : List ℕ} {vs vs' : List ℤ} (at r : ℕ) → Holds es ks vs at → Written (postfix e) ks ks' vs vs' at r
-    → length (nodesOf (es ++ (e ∷ []))) ≤ maxNodes → (length (nodesOf es) ≤ maxNodes) × (r - at ≡ nodeCount e)
-count-next es e at r h w k =
-    let l : length (nodesOf (es ++ (e ∷ []))) ≡ length (nodesOf es) + length (postfix e) =
-    ap (λ (x : List Node). length x) (nodes-append es (e ∷ []) ∙ ap (λ (x : List Node). nodesOf es ++ x) (append-nil (postfix e))) ∙ length-append (nodesOf es) (postfix e) in
-    (omega (arith, l), omega (arith, l, h .nodes, w .nodes, postfix-length e))
 
 -- ---- the results one after another
 

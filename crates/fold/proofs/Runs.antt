@@ -14,9 +14,9 @@ use Rattle.indexing.proofs.Formed.{counts, run-here, tree-here, held-is}
 use Rattle.indexing.proofs.Starts.{start-suc, start-le}
 use Rattle.tree_sum.proofs.Walked.{run-folds}
 use Rattle.tree_sum.specs.Trees.{FoldsTree}
-use Rattle.fold.specs.FoldMap.{exprAt, mapBounds}
+use Rattle.encoding.specs.Trees.{exprAt, mapBounds}
 use Rattle.fold.specs.Ready.{mapNodes, Space, FoldsRun}
-use Rattle.fold.proofs.Trees.{runs-all, tree-is}
+use Rattle.encoding.proofs.Trees.{runs-all, tree-is}
 use Rattle.tree_sum.specs.declared.TreeSum.{TreeSum}
 
 module _ (m : IndexingMap) (f : Formed m) (i : ℕ) (h : i < runs m) (a b : ℕ) (q : Held a b ≡ runOf m i)

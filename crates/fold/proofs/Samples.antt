@@ -6,40 +6,29 @@ use lib.IntN.{pos, negℤ}
 use Rattle.integer.proofs.Samples.{Agree}
 use Rattle.refusal.specs.Number.{Answer, refusal}
 use Rattle.refusal.specs.declared.Refusal.the-variants.{WorkingLimit}
-use Rattle.expression.specs.Expression.{d, Expr, rangeOf, everyNode, smallRanges, nodeCount}
-use Rattle.expression.specs.Node.{nodeOf, nodesAt}
-use Rattle.expression.specs.Machine.{walk}
-use Rattle.expression.specs.Decode.{decode}
-use Rattle.indexing.specs.Map.{goodIntervals, startOf, countIn, treeAt, goodBounds, goodEnds, goodTrees, goodParts, goodCounts, goodRanges}
+use Rattle.expression.specs.Expression.{d, Expr}
 use Rattle.indexing.specs.declared.IndexingMap.{IndexingMap}
 use Rattle.folding.specs.Fold.{termTree, constantTree, atomTree}
 use Rattle.folding.specs.Working.{smallFrom, smallSum, smallSums, restsTried, sumsFormed, treeSums, smallWorking}
 use Rattle.folding.proofs.Samples.{folds}
 use Rattle.folding.specs.Map.{foldTree, isInside, foldConstraints, smallTrees}
-use Rattle.encoding.specs.Postfix.{postfix}
 use Rattle.encoding.specs.Encode.{encodeMap}
-use Rattle.fold.specs.FoldMap.{listed, foldedMap, smallFold, fewNodes, noMap, foldAnswer}
+use Rattle.encoding.proofs.Samples.{reads-maps}
+use Rattle.indexing.specs.Answers.{noMap}
+use Rattle.fold.specs.FoldMap.{foldedMap, smallFold, fewNodes, foldAnswer}
 
 -- the line `unfolding folds-maps` opens all that folding a record computes with: judging and reading it, ranges, merging, what rule 2
 -- tries, the rules, the limits, and writing the trees
-unfoldable reads : Unit {0}
-unfolding goodParts goodBounds goodEnds goodTrees goodCounts goodRanges goodIntervals startOf countIn treeAt decode walk nodesAt nodeOf listed
-reads = tt
-
-unfoldable reckons : Unit {0}
-unfolding rangeOf smallRanges everyNode
-reckons = tt
-
 unfoldable judges : Unit {0}
 unfolding smallFold smallTrees smallWorking smallSums smallSum smallFrom treeSums sumsFormed restsTried fewNodes
 judges = tt
 
 unfoldable writes : Unit {0}
-unfolding foldTree termTree constantTree atomTree foldConstraints isInside postfix nodeCount encodeMap foldedMap
+unfolding foldTree termTree constantTree atomTree foldConstraints isInside foldedMap
 writes = tt
 
 unfoldable pub folds-maps : Unit {0}
-unfolding reads reckons folds judges writes foldAnswer
+unfolding reads-maps folds judges writes foldAnswer
 folds-maps = tt
 
 -- 4 * (2^62 * d0) - 4 * (2^62 * d0) with d0 in [0, 0]: accepted, but 2^64 is a coefficient on the way

@@ -1,22 +1,22 @@
 -- What folding a map does, one theorem under each sentence. Assumes nothing.
-use mathlib.Core.Path.{_≡_, refl, ap}
+use mathlib.Core.Path.{_≡_, refl}
 use mathlib.Core.Logic.{_↔_}
 use mathlib.Core.Bool.{Bool, true, false, cond}
 use mathlib.Core.List.{List, [], _∷_}
 use Prim.Native.Nat.{ℕ, _+_, _<_, _≤_}
-use native.Mathlib.Omega.{arith}
 use lib.IntN.{ℤ}
-use Rattle.refusal.specs.Number.{answered, done, refusal}
+use Rattle.refusal.specs.Number.{done, refusal}
 use Rattle.refusal.specs.Judge.{judge}
 use Rattle.refusal.specs.declared.Refusal.{Refusal}
-use Rattle.refusal.specs.declared.Verdict.{Verdict}
 use Rattle.refusal.specs.declared.Verdict.the-variants.{Done, Refused}
-use Rattle.refusal.proofs.Theorems.{number-positive}
 use Rattle.expression.specs.Node.{maxVariables}
 use Rattle.indexing.specs.Map.{valueAt, inBounds, Domain, SameAt, Alike, goodParts, goodCounts, goodRanges}
 use Rattle.indexing.specs.Answers.{mapRules, resultValues}
 use Rattle.indexing.specs.declared.IndexingMap.{IndexingMap}
-use Rattle.fold.specs.FoldMap.{resultTrees, mapConstraints, foldedResults, foldedConstraints, foldedMap, smallFold, fewNodes, noMap, foldRules, foldAnswer}
+use Rattle.indexing.specs.Answers.{noMap}
+use Rattle.indexing.proofs.Answered.{map-refused, map-number-zero}
+use Rattle.encoding.specs.Trees.{resultTrees, mapConstraints}
+use Rattle.fold.specs.FoldMap.{foldedResults, foldedConstraints, foldedMap, smallFold, fewNodes, foldRules, foldAnswer}
 use Rattle.fold.proofs.Folded.{Folds, folds-of, constraint-count, folded-accepted}
 use Rattle.fold.proofs.Points.{folded-results-are, folded-constraints-are, dims-are, ranges-are, results-are, dimension-is, range-is, domain-both, value-same, answer-same}
 use Rattle.fold.proofs.FoldAgain.{map-again, answer-of, answer-again}
@@ -45,16 +45,12 @@ fold-number m = go (goodParts m) (goodCounts m) (goodRanges m) (smallFold m) (fe
 -- A fold that is refused answers the refusal of the first rule that is broken, and a map of zeros.
 pub refused-zeros : (m : IndexingMap) (r : Refusal) → judge (foldRules m) ≡ Refused r → foldAnswer m ≡ refusal (noMap ∷ []) r
 unfolding foldAnswer
-refused-zeros m r e = ap (λ (v : Verdict). answered (noMap ∷ []) v (foldedMap m ∷ [])) e
+refused-zeros m r e = map-refused (foldedMap m) (foldRules m) r e
 
 -- The number is 0 exactly where every rule is kept.
 pub done-is : (m : IndexingMap) → (foldAnswer m .number ≡ 0) ↔ (judge (foldRules m) ≡ Done)
 unfolding foldAnswer
-done-is m = (to (judge (foldRules m)), λ e. ap (λ (v : Verdict). answered (noMap ∷ []) v (foldedMap m ∷ []) .number) e)
-  where
-    to : (v : Verdict) → answered (noMap ∷ []) v (foldedMap m ∷ []) .number ≡ 0 → v ≡ Done
-    to Done e = refl
-    to (Refused r) e = absurd (omega (arith, number-positive r))
+done-is m = map-number-zero (foldedMap m) (foldRules m)
 
 -- What a record holds past its counts alters nothing in the answer.
 pub past-counts : (m n : IndexingMap) → Alike m n → foldAnswer m ≡ foldAnswer n

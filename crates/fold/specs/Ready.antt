@@ -4,9 +4,9 @@ use mathlib.Core.Bool.{Bool, true, cond}
 use mathlib.Core.List.{List, [], _++_, map}
 use Prim.Native.Nat.{ℕ, _+_, _*_, _≤_}
 use lib.IntN.{ℤ, pos}
-use lib.ListN.{length, take, drop, set, replicate}
+use lib.ListN.{length, take, drop, set}
 use Rattle.expression.specs.Expression.{Expr, nodeCount}
-use Rattle.expression.specs.Node.{maxVariables, maxPlaces, maxNodes}
+use Rattle.expression.specs.Node.{maxNodes}
 use Rattle.indexing.specs.Map.{maxResults, maxConstraints, startOf, runs, countOf}
 use Rattle.indexing.specs.declared.IndexingMap.{IndexingMap}
 use Rattle.folding.specs.Sum.{Sum, termCount, sumRange}
@@ -16,9 +16,10 @@ use Rattle.folding.specs.Map.{Constraint, foldTree, isInside, smallTrees, const
 use Rattle.words.specs.Words.{sumWords}
 use Rattle.encoding.specs.Postfix.{postfix}
 use Rattle.encoding.specs.Written.{Kept, Written}
-use Rattle.encoding.specs.Encode.{boundsOf, filled, nodesOf, Holds}
+use Rattle.encoding.specs.Encode.{filled, nodesOf, Holds}
 use Rattle.rules.specs.Outcome.{maxTerms}
-use Rattle.fold.specs.FoldMap.{exprAt, constraintAt, resultTrees, mapConstraints, mapBounds, foldedResults, foldedConstraints}
+use Rattle.encoding.specs.Trees.{exprAt, constraintAt, resultTrees, mapConstraints, mapBounds}
+use Rattle.fold.specs.FoldMap.{foldedResults, foldedConstraints}
 use Rattle.tree_sum.specs.declared.TreeSum.{TreeSum}
 use Rattle.fold.specs.declared.Progress.{Progress}
 use Rattle.fold.specs.declared.Remaining.{Remaining}
@@ -60,12 +61,6 @@ pub record WritesRun (m : IndexingMap) (i : ℕ) (ks ks' : List ℕ) (vs vs' : L
 
 -- ---- the results
 
--- arrays that hold nothing yet
-pub record Zeros (counts kinds : List ℕ) (values : List ℤ) : Type 0 where
-  pub counts-zero : counts ≡ replicate maxResults 0
-  pub kinds-zero : kinds ≡ replicate maxNodes 0
-  pub values-zero : values ≡ replicate maxNodes (pos 0)
-
 -- every result folded: their nodes one after another, and the numbers of their nodes
 pub record FoldsResults (m : IndexingMap) (counts ks : List ℕ) (vs : List ℤ) (r : Progress) : Type 0 where
   pub judged : r .small ≡ smallTrees (mapBounds m) (resultTrees m)
@@ -89,11 +84,6 @@ pub record FoldsConstraint (m : IndexingMap) (k : ℕ) (ks ks' : List ℕ) (vs v
   pub goes : r .small ≡ true → r .gone ≡ isGone m k
   pub written : r .small ≡ true → Written (cond (r .gone) [] (postfix (foldTree (mapBounds m) (constraintAt m k .expr)))) ks ks' vs vs' at (r .at)
 
-pub record ConstraintZeros (counts : List ℕ) (lower upper : List ℤ) : Type 0 where
-  pub counts-zero : counts ≡ replicate maxConstraints 0
-  pub lower-zero : lower ≡ replicate maxConstraints (pos 0)
-  pub upper-zero : upper ≡ replicate maxConstraints (pos 0)
-
 -- one entry more in each array where the constraint stays
 pub record Stays (gone : Bool) (counts counts' : List ℕ) (lower lower' upper upper' : List ℤ) (count nodes : ℕ) (lo hi : ℤ) (r : ℕ) : Type 0 where
   pub counts-are : counts' ≡ cond gone counts (set counts count nodes)
@@ -110,29 +100,3 @@ pub record FoldsConstraints (m : IndexingMap) (counts : List ℕ) (lower upper :
   pub holds : (es : List Expr) → Holds es ks vs start → r .small ≡ true → Holds (es ++ constraintTrees (foldedConstraints m)) ks' vs' (r .at)
   pub counted : (es : List Expr) → Holds es ks vs start → r .small ≡ true → length (nodesOf (es ++ constraintTrees (foldedConstraints m))) ≤ maxNodes
       → counts ≡ filled maxConstraints 0 (map (λ (c : Constraint). nodeCount (c .expr)) (foldedConstraints m))
-
--- ---- the bounds
-
--- bounds by places, and counts that keep their limits
-pub record Bounded (bounds : List ℤ) (dims ranges : ℕ) : Type 0 where
-  pub long : length bounds ≡ maxPlaces
-  pub few-dims : dims ≤ maxVariables
-  pub few-ranges : ranges ≤ maxVariables
-
--- the record of the variables of m and of results and constraints that stand in arrays
-abbrev pub recordOf : IndexingMap → List ℕ → ℕ → List ℕ → List ℤ → List ℤ → List ℕ → List ℤ → IndexingMap
-recordOf m counts count nodes lower upper kinds values =
-    record {
-      dims = m .dims;
-      ranges = m .ranges;
-      lower = boundsOf (m .dims) (m .ranges) (m .lower);
-      upper = boundsOf (m .dims) (m .ranges) (m .upper);
-      results = m .results;
-      «result_nodes» = counts;
-      constraints = count;
-      «constraint_nodes» = nodes;
-      «constraint_lower» = lower;
-      «constraint_upper» = upper;
-      kinds = kinds;
-      values = values;
-    }

@@ -2,15 +2,7 @@
 mod parts;
 mod whole;
 
-use indexing::IndexingMap;
-use refusal::Verdict;
 pub use whole::fold_map;
-
-// The answer of fold_map: a map of zeros when refused.
-pub struct FoldedMap {
-    pub verdict: Verdict,
-    pub map: IndexingMap,
-}
 
 // How far the trees are folded and their nodes written: whether every sum formed keeps the limits, and the place past the last node.
 pub struct Progress {

@@ -12,8 +12,9 @@ ghost use Rattle.expression.specs.Expression.{span};
 ghost use Rattle.indexing.specs.Map.{maxConstraints, runs};
 ghost use Rattle.indexing.specs.Ready.{Accepted};
 ghost use Rattle.folding.specs.Map.{isInside};
+ghost use Rattle.encoding.specs.Encode.{Zeros, ConstraintZeros};
 ghost use Rattle.encoding.specs.Written.{Room};
-ghost use Rattle.fold.specs.Ready.{Space, FoldsRun, WritesRun, FoldsResults, Goes, FoldsConstraint, Stays, FoldsConstraints, Zeros, ConstraintZeros};
+ghost use Rattle.fold.specs.Ready.{Space, FoldsRun, WritesRun, FoldsResults, Goes, FoldsConstraint, Stays, FoldsConstraints};
 
 // The folded sum of run i, written to the front of the words.
 fn run_sum(m: IndexingMap, i: usize, words: &mut [i64], scratch: &mut [i64]) -> TreeSum

@@ -1,77 +1,20 @@
 // A map folded: its bounds, its trees, and the record made of them.
-use super::FoldedMap;
 use super::parts;
+use indexing::AnsweredMap;
 use indexing::IndexingMap;
 use indexing::Run;
 use refusal::Refusal;
 use refusal::Verdict;
 ghost use mathlib.Core.Path.{_≡_};
-ghost use Prim.Native.Nat.{_<_, _≤_};
-ghost use lib.IntN.{pos};
-ghost use lib.ListN.{length, getD};
-ghost use Rattle.refusal.specs.declared.Verdict.the-variants.{Refused};
-ghost use Rattle.expression.specs.Node.{maxVariables, maxPlaces};
+ghost use Prim.Native.Nat.{_≤_};
+ghost use Rattle.indexing.specs.Answers.{mapAnswer};
 ghost use Rattle.indexing.specs.Ready.{Accepted};
-ghost use Rattle.encoding.specs.Encode.{boundsOf};
-ghost use Rattle.fold.specs.FoldMap.{noMap, foldedWith, acceptedFold, foldedAnswer, foldAnswer};
-ghost use Rattle.fold.specs.Ready.{Space, Bounded, recordOf, mapNodes, fewAtMost};
+ghost use Rattle.encoding.specs.Encode.{recordOf};
+ghost use Rattle.fold.specs.FoldMap.{acceptedFold, foldAnswer};
+ghost use Rattle.fold.specs.Ready.{Space, mapNodes, fewAtMost};
 
 // The most nodes of a map that is folded in the smaller work space.
 const FEW: usize = 64;
-
-// The bound at a place, below the counts; 0 past them.
-fn bound_at(bounds: &[i64], dims: usize, ranges: usize, place: usize) -> i64
-    requires { ⌜ Bounded (now bounds) dims ranges × (place < maxPlaces) ⌝ }
-    ensures { λ r. ⌜ r ≡ getD (boundsOf dims ranges (now (bounds .entry))) place (pos 0) ⌝ }
-{
-    if place < expression::MAX_VARIABLES {
-        if place < dims {
-            return bounds[place];
-        }
-        return 0;
-    }
-    if place - expression::MAX_VARIABLES < ranges {
-        return bounds[place];
-    }
-    0
-}
-
-// The bounds below the counts, and 0 past them.
-fn kept_bounds(bounds: &[i64], dims: usize, ranges: usize) -> [i64; 24]
-    requires { ⌜ Bounded (now bounds) dims ranges ⌝ }
-    ensures { λ r. ⌜ r ≡ boundsOf dims ranges (now (bounds .entry)) ⌝ }
-{
-    let mut out = [0i64; 24];
-    let mut i: usize = 0;
-    while i < 24 {
-        out[i] = bound_at(bounds, dims, ranges, i);
-        i += 1;
-    }
-    out
-}
-
-// No map, with its refusal.
-fn refused(refusal: Refusal) -> FoldedMap
-    ensures { λ r. ⌜ r ≡ foldedWith (Refused refusal) noMap ⌝ }
-{
-    FoldedMap {
-        verdict: Verdict::Refused(refusal),
-        map: IndexingMap {
-            dims: 0,
-            ranges: 0,
-            lower: [0i64; 24],
-            upper: [0i64; 24],
-            results: 0,
-            result_nodes: [0usize; 8],
-            constraints: 0,
-            constraint_nodes: [0usize; 32],
-            constraint_lower: [0i64; 32],
-            constraint_upper: [0i64; 32],
-            kinds: [0u8; 256],
-            values: [0i64; 256],
-        },
-    }
-}
 
 // The record of the variables of a map and of results and constraints that stand in arrays.
 fn folded_record(
@@ -85,26 +28,28 @@ fn folded_record(
     values: [i64; 256],
 ) -> IndexingMap
     requires { ⌜ Accepted m ⌝ }
-    ensures { λ r. ⌜ r ≡ recordOf m counts count nodes lower upper kinds values ⌝ }
+    ensures { λ r. ⌜ r ≡ recordOf (m .dims) (m .ranges) (m .lower) (m .upper) (m .results) counts count nodes lower upper kinds values ⌝ }
 {
-    IndexingMap {
-        dims: m.dims,
-        ranges: m.ranges,
-        lower: kept_bounds(&m.lower, m.dims, m.ranges),
-        upper: kept_bounds(&m.upper, m.dims, m.ranges),
-        results: m.results,
-        result_nodes: counts,
-        constraints: count,
-        constraint_nodes: nodes,
-        constraint_lower: lower,
-        constraint_upper: upper,
+    let first = m.lower;
+    let last = m.upper;
+    encoding::record_of(
+        m.dims,
+        m.ranges,
+        first,
+        last,
+        m.results,
+        counts,
+        count,
+        nodes,
+        lower,
+        upper,
         kinds,
         values,
-    }
+    )
 }
 
 // An accepted map folded, with room for the words of its sums: refused with 8 or 7.
-fn fold_in(m: IndexingMap, words: &mut [i64], scratch: &mut [i64]) -> FoldedMap
+fn fold_in(m: IndexingMap, words: &mut [i64], scratch: &mut [i64]) -> AnsweredMap
     requires { ⌜ Accepted m × Space m (now words) (now scratch) ⌝ }
     ensures { λ r. ⌜ r ≡ acceptedFold m ⌝ }
 {
@@ -114,7 +59,7 @@ fn fold_in(m: IndexingMap, words: &mut [i64], scratch: &mut [i64]) -> FoldedMap
     let p = parts::fold_results(m, words, scratch, &mut counts, &mut kinds, &mut values);
     let small = p.small;
     if !small {
-        return refused(Refusal::WorkingLimit);
+        return indexing::inner::refused_map(Refusal::WorkingLimit);
     }
     let mut nodes = [0usize; 32];
     let mut lower = [0i64; 32];
@@ -132,13 +77,13 @@ fn fold_in(m: IndexingMap, words: &mut [i64], scratch: &mut [i64]) -> FoldedMap
     );
     let all = q.small;
     if !all {
-        return refused(Refusal::WorkingLimit);
+        return indexing::inner::refused_map(Refusal::WorkingLimit);
     }
     if expression::MAX_NODES < q.at {
-        return refused(Refusal::CountLimit);
+        return indexing::inner::refused_map(Refusal::CountLimit);
     }
     let map = folded_record(m, counts, q.count, nodes, lower, upper, kinds, values);
-    FoldedMap {
+    AnsweredMap {
         verdict: Verdict::Done,
         map,
     }
@@ -164,7 +109,7 @@ fn node_total(m: IndexingMap) -> usize
 }
 
 // An accepted map of few nodes folded.
-fn fold_few(m: IndexingMap) -> FoldedMap
+fn fold_few(m: IndexingMap) -> AnsweredMap
     requires { ⌜ Accepted m × (mapNodes m ≤ fewAtMost) ⌝ }
     ensures { λ r. ⌜ r ≡ acceptedFold m ⌝ }
 {
@@ -174,7 +119,7 @@ fn fold_few(m: IndexingMap) -> FoldedMap
 }
 
 // An accepted map of any number of nodes folded.
-fn fold_many(m: IndexingMap) -> FoldedMap
+fn fold_many(m: IndexingMap) -> AnsweredMap
     requires { ⌜ Accepted m ⌝ }
     ensures { λ r. ⌜ r ≡ acceptedFold m ⌝ }
 {
@@ -184,7 +129,7 @@ fn fold_many(m: IndexingMap) -> FoldedMap
 }
 
 // An accepted map folded, in work space by its number of nodes: clearing the larger one takes longer than folding a small map.
-fn fold_accepted(m: IndexingMap) -> FoldedMap
+fn fold_accepted(m: IndexingMap) -> AnsweredMap
     requires { ⌜ Accepted m ⌝ }
     ensures { λ r. ⌜ r ≡ acceptedFold m ⌝ }
 {
@@ -195,15 +140,15 @@ fn fold_accepted(m: IndexingMap) -> FoldedMap
 }
 
 // A map folded: refused with 2, 7 or 8 of the map given, 8 of the working or 7 of the result.
-pub fn fold_map(m: IndexingMap) -> FoldedMap
-    ensures { λ r. ⌜ foldedAnswer r ≡ foldAnswer m ⌝ }
+pub fn fold_map(m: IndexingMap) -> AnsweredMap
+    ensures { λ r. ⌜ mapAnswer r ≡ foldAnswer m ⌝ }
 {
     match indexing::inner::judged(m) {
         Verdict::Done => {
             return fold_accepted(m);
         }
         Verdict::Refused(r) => {
-            return refused(r);
+            return indexing::inner::refused_map(r);
         }
     }
 }

@@ -3,6 +3,7 @@ pub mod Comparisons
 pub mod Starts
 pub mod Fronts
 pub mod Formed
+pub mod Answered
 pub mod Theorems
 pub mod Samples
 pub mod Unread

@@ -5,6 +5,7 @@ use mathlib.Core.Logic.{_↔_}
 use mathlib.Core.List.{List}
 use Prim.Native.Nat.{ℕ, _+_, _<_, _≤_}
 use native.Mathlib.Omega.{arith}
+use borrow.Author.Tests.{eqb-true, eq-eqb}
 use lib.Dec.{eqb}
 use lib.IntN.{ℤ, natAbs}
 use lib.ListN.{length}
@@ -23,7 +24,7 @@ use Rattle.expression.proofs.Order.{Le-order}
 use Rattle.expression.proofs.Tests.{small-fits}
 use Rattle.expression.proofs.Within.{LeIn, Inside}
 use Rattle.expression.proofs.Theorems.{value-in-range, value-within}
-use Rattle.indexing.specs.Map.{startOf, runs, countOf, treeAt, goodParts, goodCounts, goodRanges, isIn, inAt, areIn, inBounds, holdsAt, allHold, inDomain, Domain, Alike}
+use Rattle.indexing.specs.Map.{startOf, runs, countOf, treeAt, goodParts, goodCounts, goodRanges, rightLength, isIn, inAt, areIn, inBounds, holdsAt, allHold, inDomain, Domain, Alike}
 use Rattle.indexing.specs.Ready.{Bounded}
 use Rattle.indexing.specs.Answers.{judgedMap, resultRanges, resultValues}
 use Rattle.indexing.specs.declared.IndexingMap.{IndexingMap}
@@ -96,7 +97,7 @@ in-fact z a b e = record { low = le-test a z .0 (and-left (leZ a z) _ e); high =
 in-test : (z a b : ℤ) → In z (span a b) → isIn z a b ≡ true
 in-test z a b h = and-true (le-test a z .1 (h .low)) (le-test z b .1 (h .high))
 
--- A point is in the domain exactly where every variable is inside its bounds and every constraint holds.
+-- A point is in the domain exactly where it has a value for each variable, inside its bounds, and every constraint holds.
 pub domain-is : (m : IndexingMap) (ds ss : List ℤ) → (inDomain m ds ss ≡ true) ↔ Domain m ds ss
 unfolding inDomain inBounds areIn allHold
 domain-is m ds ss = (to, from)
@@ -106,11 +107,15 @@ domain-is m ds ss = (to, from)
 
     to : inDomain m ds ss ≡ true → Domain m ds ss
     to e =
-        let i = and-left (inBounds m ds ss) _ e in
-        let h = and-right (inBounds m ds ss) _ e in
+        let long = and-left (rightLength m ds ss) _ e in
+        let in-all = and-right (rightLength m ds ss) _ e in
+        let i = and-left (inBounds m ds ss) _ in-all in
+        let h = and-right (inBounds m ds ss) _ in-all in
         let a = and-left (areIn ds (m .lower) (m .upper) 0 (m .dims)) _ i in
         let b = and-right (areIn ds (m .lower) (m .upper) 0 (m .dims)) _ i in
         record {
+          long-dims = eqb-true _ _ (and-left (eqb (length ds) (m .dims)) _ long);
+          long-ranges = eqb-true _ _ (and-right (eqb (length ds) (m .dims)) _ long);
           dims = λ n l. in-fact _ _ _ (rw (low n) at (every-at (inAt ds (m .lower) (m .upper) 0) (m .dims) a n l));
           ranges = λ n l. in-fact _ _ _ (every-at (inAt ss (m .lower) (m .upper) maxVariables) (m .ranges) b n l);
           holds = λ k l. in-fact _ _ _ (every-at (holdsAt m ds ss) (m .constraints) h k l);
@@ -118,11 +123,12 @@ domain-is m ds ss = (to, from)
 
     from : Domain m ds ss → inDomain m ds ss ≡ true
     from h =
-        and-true
+        and-true (and-true (eq-eqb _ _ (h .long-dims)) (eq-eqb _ _ (h .long-ranges)))
+        (and-true
         (and-true
         (every-all (inAt ds (m .lower) (m .upper) 0) (m .dims) (λ n l. rw (low n) (in-test _ _ _ (h .dims n l))))
         (every-all (inAt ss (m .lower) (m .upper) maxVariables) (m .ranges) (λ n l. in-test _ _ _ (h .ranges n l))))
-        (every-all (holdsAt m ds ss) (m .constraints) (λ k l. in-test _ _ _ (h .holds k l)))
+        (every-all (holdsAt m ds ss) (m .constraints) (λ k l. in-test _ _ _ (h .holds k l))))
 
 -- ---- an accepted map at a point inside its bounds
 

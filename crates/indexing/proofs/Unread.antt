@@ -12,6 +12,7 @@ use lib.Seq.{getD-drop}
 use Rattle.integer.specs.Exact.{limit}
 use Rattle.radix.specs.Radix.{every}
 use Rattle.expression.specs.Node.{maxVariables, maxNodes, nodeOf, nodesAt}
+use Rattle.expression.specs.declared.Node.{Node}
 use Rattle.expression.specs.Decode.{Tree, none, tree, decode, isTree}
 use Rattle.refusal.specs.Judge.{judge}
 use Rattle.expression.specs.Expression.{Expr, d, s, rt, Range, span, addRange, mulRange, opRange, rangeOf, smallRange, smallRanges, everyNode}
@@ -35,13 +36,12 @@ start-same f g zero h = refl
 start-same f g (suc i) h = ap₂ (λ (a b : ℕ). a + b) (start-same f g i (λ k l. h k (omega arith))) (h i (omega arith))
 
 nodes-same : (dims ranges : ℕ) (ks ks' : List ℕ) (vs vs' : List ℤ) (i n : ℕ)
-    → ((p : ℕ) → p < i + n → (getD ks p 0 ≡ getD ks' p 0) × (getD vs p (pos 0) ≡ getD vs' p (pos 0)))
+    → ((p : ℕ) → p < i + n → nodeOf dims ranges (getD ks p 0) (getD vs p (pos 0)) ≡ nodeOf dims ranges (getD ks' p 0) (getD vs' p (pos 0)))
     → nodesAt dims ranges ks vs i n ≡ nodesAt dims ranges ks' vs' i n
 unfolding nodesAt
 nodes-same dims ranges ks ks' vs vs' i zero h = refl
 nodes-same dims ranges ks ks' vs vs' i (suc n) h =
-    let a = h i (omega arith) in
-    rw (a .0, a .1) (ap (λ l. nodeOf dims ranges (getD ks' i 0) (getD vs' i (pos 0)) ∷ l) (nodes-same dims ranges ks ks' vs vs' (i + 1) n (λ p l. h p (omega arith))))
+    ap₂ (λ (x : Node) (l : List Node). x ∷ l) (h i (omega arith)) (nodes-same dims ranges ks ks' vs vs' (i + 1) n (λ p l. h p (omega arith)))
 
 pub front-same : (f g : ℕ → ℤ) (i n : ℕ) → ((k : ℕ) → k < i → f k ≡ g k) → front f i n ≡ front g i n
 unfolding front
@@ -71,6 +71,11 @@ module _ (m n : IndexingMap) (a : Alike m n) where
   held-same : (i : ℕ) → i < runs m → isHeld m i ≡ isHeld n i
   held-same i h = rw (start-at (suc i) h)
 
+  -- the same node, read with the counts of m
+  node-same : (p : ℕ) → p < startOf (countOf m) (runs m) → p < maxNodes
+      → nodeOf (m .dims) (m .ranges) (getD (m .kinds) p 0) (getD (m .values) p (pos 0)) ≡ nodeOf (m .dims) (m .ranges) (getD (n .kinds) p 0) (getD (n .values) p (pos 0))
+  node-same p h k = a .nodes p h k ∙ ap₂ (λ (x y : ℕ). nodeOf x y (getD (n .kinds) p 0) (getD (n .values) p (pos 0))) (sym (a .dims)) (sym (a .ranges))
+
   -- a run that is held is the same tree
   pub tree-same : (i : ℕ) → i < runs m → isHeld m i ≡ true → treeAt m i ≡ treeAt n i
   unfolding treeAt
@@ -79,7 +84,7 @@ module _ (m n : IndexingMap) (a : Alike m n) where
       let s = start-suc (countOf m) i in
       let t = start-le (countOf m) (suc i) (runs m) h in
       rw (← a .dims, ← a .ranges, ← start-at i (omega arith), ← a .counts i h)
-      (ap decode (nodes-same (m .dims) (m .ranges) (m .kinds) (n .kinds) (m .values) (n .values) (startOf (countOf m) i) (countOf m i) (λ p l. a .nodes p (omega arith) (omega arith))))
+      (ap decode (nodes-same (m .dims) (m .ranges) (m .kinds) (n .kinds) (m .values) (n .values) (startOf (countOf m) i) (countOf m i) (λ p l. node-same p (omega arith) (omega arith))))
 
   good-same : (i : ℕ) → i < runs m → goodTree m i ≡ goodTree n i
   good-same i h = go (isHeld m i) refl
@@ -210,7 +215,7 @@ module _ (m n : IndexingMap) (a : Alike m n) where
 
     domain-same : inDomain m ds ss ≡ inDomain n ds ss
     unfolding inDomain
-    domain-same = rw (in-same, holds-same)
+    domain-same = rw (in-same, holds-same, a .dims, a .ranges)
 
     values-front : valuesOf m ds ss (m .results) ≡ valuesOf n ds ss (m .results)
     values-front = let w = all in front-same (valueAt m ds ss) (valueAt n ds ss) (m .results) maxResults (λ k l. value-same k (omega arith))

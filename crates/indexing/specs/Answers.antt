@@ -1,18 +1,19 @@
 -- What the calls on indexing maps answer: the rules in the order of their numbers, and the values. Assumes nothing.
-use mathlib.Core.Bool.{_&&_}
 use mathlib.Core.List.{List, [], _∷_, _++_}
 use Prim.Native.Nat.{ℕ, zero, suc, _+_}
-use lib.Dec.{eqb}
 use lib.IntN.{ℤ, pos}
-use lib.ListN.{length, replicate}
+use lib.ListN.{replicate}
 use Rattle.refusal.specs.Number.{Answer, answered, verdictAnswer}
 use Rattle.refusal.specs.Judge.{Rule, rule, judge}
 use Rattle.refusal.specs.declared.Refusal.{Refusal}
 use Rattle.refusal.specs.declared.Refusal.the-variants.{Attribute, Outside, WrongLength, CountLimit, WorkingLimit}
+use Rattle.refusal.specs.declared.Verdict.{Verdict}
 use Rattle.refusal.specs.declared.Verdict.the-variants.{Done, Refused}
+use Rattle.expression.specs.Node.{maxPlaces, maxNodes}
 use Rattle.expression.specs.Reckon.{lowEnd, highEnd}
-use Rattle.indexing.specs.Map.{maxResults, goodParts, goodCounts, goodRanges, rangeAt, valueAt, inDomain}
+use Rattle.indexing.specs.Map.{maxResults, maxConstraints, goodParts, goodCounts, goodRanges, rangeAt, valueAt, rightLength, inDomain}
 use Rattle.indexing.specs.declared.IndexingMap.{IndexingMap}
+use Rattle.indexing.specs.declared.AnsweredMap.{AnsweredMap}
 use Rattle.indexing.specs.declared.ResultRanges.{ResultRanges}
 use Rattle.indexing.specs.declared.ResultValues.{ResultValues}
 
@@ -95,7 +96,7 @@ valuedOf m ds ss = record { verdict = Done; results = m .results; values = value
 abbrev pub pointRules : IndexingMap → List ℤ → List ℤ → List Rule
 pointRules m ds ss =
     rule (goodParts m) Attribute
-    ∷ rule (eqb (length ds) (m .dims) && eqb (length ss) (m .ranges)) WrongLength
+    ∷ rule (rightLength m ds ss) WrongLength
     ∷ rule (goodCounts m) CountLimit
     ∷ rule (goodRanges m) WorkingLimit
     ∷ rule (inDomain m ds ss) Outside
@@ -105,3 +106,39 @@ unfoldable pub resultValues : IndexingMap → List ℤ → List ℤ → Answer �
 resultValues m ds ss =
     answered (replicate (1 + maxResults) (pos 0)) (judge (pointRules m ds ss))
     (pos (m .results) ∷ valuesOf m ds ss (m .results))
+
+-- ---- a call that makes a map answers it, or a map of zeros
+
+abbrev pub noMap : IndexingMap
+noMap =
+    record {
+      dims = 0;
+      ranges = 0;
+      lower = replicate maxPlaces (pos 0);
+      upper = replicate maxPlaces (pos 0);
+      results = 0;
+      «result_nodes» = replicate maxResults 0;
+      constraints = 0;
+      «constraint_nodes» = replicate maxConstraints 0;
+      «constraint_lower» = replicate maxConstraints (pos 0);
+      «constraint_upper» = replicate maxConstraints (pos 0);
+      kinds = replicate maxNodes 0;
+      values = replicate maxNodes (pos 0);
+    }
+
+abbrev pub mapAnswer : AnsweredMap → Answer IndexingMap
+mapAnswer r =
+    record {
+      number = verdictAnswer (r .verdict) .number;
+      values = r .map ∷ [];
+      places = verdictAnswer (r .verdict) .places;
+    }
+
+-- the record that stands for a verdict and a map
+abbrev pub answeredMap : Verdict → IndexingMap → AnsweredMap
+answeredMap Done m = record { verdict = Done; map = m }
+answeredMap (Refused r) m = record { verdict = Refused r; map = noMap }
+
+-- what a call answers that makes a map by rules: the map where they are kept
+abbrev pub mapBy : List Rule → IndexingMap → Answer IndexingMap
+mapBy rules m = answered (noMap ∷ []) (judge rules) (m ∷ [])

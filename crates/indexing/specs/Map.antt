@@ -3,17 +3,18 @@ use mathlib.Core.Path.{_≡_}
 use mathlib.Core.Bool.{Bool, true, cond, _&&_}
 use mathlib.Core.List.{List}
 use Prim.Native.Nat.{ℕ, zero, suc, _+_, _-_, _^_, _<_, min}
-use lib.Dec.{leb, ltb}
+use lib.Dec.{leb, ltb, eqb}
 use lib.IntN.{ℤ, pos, natAbs}
-use lib.ListN.{getD}
+use lib.ListN.{length, getD}
 use lib.Signed.{leZ}
 use Rattle.integer.specs.Exact.{limit}
 use Rattle.radix.specs.Radix.{every}
 use Rattle.expression.specs.Expression.{In, span}
-use Rattle.expression.specs.Node.{maxVariables, maxNodes, nodesAt}
+use Rattle.expression.specs.Node.{maxVariables, maxNodes, nodeOf, nodesAt}
 use Rattle.expression.specs.Decode.{Tree, decode, isTree}
 use Rattle.expression.specs.Value.{treeValue}
 use Rattle.expression.specs.Reckon.{rangeIn, isKept}
+use Rattle.expression.specs.declared.Node.{Node}
 use Rattle.expression.specs.declared.Reckoned.{Reckoned}
 use Rattle.indexing.specs.declared.IndexingMap.{IndexingMap}
 
@@ -119,6 +120,10 @@ goodRanges m = every (keptAt m) (runs m)
 
 -- ---- a point: the values ds of the dimensions and ss of the range variables
 
+-- a value for each of them, and no more
+abbrev pub rightLength : IndexingMap → List ℤ → List ℤ → Bool
+rightLength m ds ss = eqb (length ds) (m .dims) && eqb (length ss) (m .ranges)
+
 -- the value of run i
 abbrev pub valueAt : IndexingMap → List ℤ → List ℤ → ℕ → ℤ
 valueAt m ds ss i = treeValue ds ss (treeAt m i)
@@ -148,12 +153,14 @@ holdsAt m ds ss k =
 unfoldable pub allHold : IndexingMap → List ℤ → List ℤ → Bool
 allHold m ds ss = every (holdsAt m ds ss) (m .constraints)
 
--- in the domain: inside the bounds, and all constraints hold
+-- in the domain: of the right length, inside the bounds, and all constraints hold
 unfoldable pub inDomain : IndexingMap → List ℤ → List ℤ → Bool
-inDomain m ds ss = inBounds m ds ss && allHold m ds ss
+inDomain m ds ss = rightLength m ds ss && (inBounds m ds ss && allHold m ds ss)
 
--- the same as a fact: every variable inside its bounds, and every constraint's value inside its interval
+-- the same as a fact: a value for each variable, inside its bounds, and every constraint's value inside its interval
 pub record Domain (m : IndexingMap) (ds ss : List ℤ) : Type 0 where
+  pub long-dims : length ds ≡ m .dims
+  pub long-ranges : length ss ≡ m .ranges
   pub dims : (n : ℕ) → n < m .dims → In (getD ds n (pos 0)) (span (getD (m .lower) n (pos 0)) (getD (m .upper) n (pos 0)))
   pub ranges : (n : ℕ) → n < m .ranges
       → In (getD ss n (pos 0)) (span (getD (m .lower) (maxVariables + n) (pos 0)) (getD (m .upper) (maxVariables + n) (pos 0)))
@@ -166,7 +173,11 @@ pub record Domain (m : IndexingMap) (ds ss : List ℤ) : Type 0 where
 abbrev pub SameAt : List ℤ → List ℤ → List ℤ → List ℤ → ℕ → Type 0
 SameAt los his los' his' i = (getD los i (pos 0) ≡ getD los' i (pos 0)) × (getD his i (pos 0) ≡ getD his' i (pos 0))
 
--- two records with the same counts that agree in what they hold below them
+-- the node at a place
+abbrev pub nodeAt : IndexingMap → ℕ → Node
+nodeAt m p = nodeOf (m .dims) (m .ranges) (getD (m .kinds) p 0) (getD (m .values) p (pos 0))
+
+-- two records with the same counts that agree in what they hold below them: bounds, ends, numbers of nodes, and nodes
 pub record Alike (m n : IndexingMap) : Type 0 where
   pub dims : m .dims ≡ n .dims
   pub ranges : m .ranges ≡ n .ranges
@@ -177,5 +188,4 @@ pub record Alike (m n : IndexingMap) : Type 0 where
   pub ends : (k : ℕ) → k < heldConstraints m
       → SameAt (m .«constraint_lower») (m .«constraint_upper») (n .«constraint_lower») (n .«constraint_upper») k
   pub counts : (i : ℕ) → i < runs m → countOf m i ≡ countOf n i
-  pub nodes : (p : ℕ) → p < startOf (countOf m) (runs m) → p < maxNodes
-      → (getD (m .kinds) p 0 ≡ getD (n .kinds) p 0) × (getD (m .values) p (pos 0) ≡ getD (n .values) p (pos 0))
+  pub nodes : (p : ℕ) → p < startOf (countOf m) (runs m) → p < maxNodes → nodeAt m p ≡ nodeAt n p

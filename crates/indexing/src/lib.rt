@@ -1,4 +1,5 @@
 // Indexing maps: the record, judging it, the reckoned ranges of its results and their values at a point.
+mod answers;
 pub mod inner;
 mod judging;
 mod points;
@@ -45,6 +46,12 @@ pub struct ResultRanges {
     pub results: usize,
     pub lower: [i64; 8],
     pub upper: [i64; 8],
+}
+
+// The answer of a call that makes a map: a map of zeros when refused.
+pub struct AnsweredMap {
+    pub verdict: Verdict,
+    pub map: IndexingMap,
 }
 
 // The answer of evaluate: zeros when refused.

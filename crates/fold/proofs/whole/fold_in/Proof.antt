@@ -6,14 +6,14 @@ use native.Mathlib.Omega.{arith}
 use Rattle.encoding.proofs.Held.{holds-room}
 use Rattle.refusal.specs.declared.Verdict.the-variants.{Done}
 use Rattle.indexing.specs.declared.IndexingMap.{IndexingMap}
-use Rattle.fold.specs.FoldMap.{foldedWith}
+use Rattle.indexing.specs.Answers.{answeredMap}
 use Rattle.fold.proofs.Assembled.{results-large, constraints-large, nodes-many, assembled}
 use Rattle.fold.proofs.whole.folded_record.Reads as folded-record-reads
 use Rattle.fold.proofs.whole.fold_in.Statement.{statement}
 use Rattle.fold.proofs.whole.fold_in.Tie as tie
 use Rattle.fold.proofs.whole.fold_in.Reads as reads
 use Rattle.fold.proofs.whole.fold_in.Lts as lts
-use Rattle.fold.proofs.whole.refused.Reads as refused-reads
+use Rattle.indexing.proofs.inner.refused_map.Reads as refused-map-reads
 use Rattle.fold.proofs.parts.fold_constraints.Reads as fold-constraints-reads
 use Rattle.fold.proofs.parts.fold_results.Reads as fold-results-reads
 
@@ -29,7 +29,7 @@ slice-aggregate-fold-results-3 c = search needs
 fold-results-requires : tie.Need-fold-results-requires
 fold-results-requires c κs = search needs
 
-refused-requires : tie.Need-refused-requires
+refused-requires : tie.Need-refused-map-requires
 refused-requires c κs = search needs
 
 same-length : tie.Need-same-length
@@ -43,7 +43,7 @@ returns c =
     let i = c .before in
     let fr = i .before .before .before .before .before .before in
     let s = fr .before .before .before .before .before .before in
-    c .refused .ensures ∙ results-large (s .args .m) (fr .fold-results .ensures) (not-true _ (i .if1 .taken))
+    c .refused-map .ensures ∙ results-large (s .args .m) (fr .fold-results .ensures) (not-true _ (i .if1 .taken))
 
 slice-aggregate-fold-constraints : tie.Need-slice-aggregate-fold-constraints
 slice-aggregate-fold-constraints c = search needs
@@ -76,7 +76,7 @@ fold-constraints-requires c κs =
       holds-room (fr .fold-results .ensures .holds (not-false _ (f1 .if1 .left))),
     )
 
-refused-requires-2 : tie.Need-refused-requires-2
+refused-requires-2 : tie.Need-refused-map-requires-2
 refused-requires-2 c κs = search needs
 
 same-length-3 : tie.Need-same-length-3
@@ -104,9 +104,9 @@ returns-2 c =
     let f1 = fc .before .before .before .before .before .before .before .before in
     let fr = f1 .before .before .before .before .before .before in
     let s = fr .before .before .before .before .before .before in
-    c .refused2 .ensures ∙ constraints-large (s .args .m) (fr .fold-results .ensures) (not-false _ (f1 .if1 .left)) (fc .fold-constraints .ensures) (not-true _ (i .if2 .taken))
+    c .refused-map2 .ensures ∙ constraints-large (s .args .m) (fr .fold-results .ensures) (not-false _ (f1 .if1 .left)) (fc .fold-constraints .ensures) (not-true _ (i .if2 .taken))
 
-refused-requires-3 : tie.Need-refused-requires-3
+refused-requires-3 : tie.Need-refused-map-requires-3
 refused-requires-3 c κs = search needs
 
 same-length-5 : tie.Need-same-length-5
@@ -135,7 +135,7 @@ returns-3 c =
     let f1 = fc .before .before .before .before .before .before .before .before in
     let fr = f1 .before .before .before .before .before .before in
     let s = fr .before .before .before .before .before .before in
-    c .refused3 .ensures
+    c .refused-map3 .ensures
     ∙ nodes-many (s .args .m) (fr .fold-results .ensures) (not-false _ (f1 .if1 .left)) (fc .fold-constraints .ensures) (not-false _ (i .if2 .left)) (t .if3 .taken)
 
 folded-record-requires : tie.Need-folded-record-requires
@@ -173,7 +173,7 @@ returns-4 c =
     let f1 = fc .before .before .before .before .before .before .before .before in
     let fr = f1 .before .before .before .before .before .before in
     let s = fr .before .before .before .before .before .before in
-    ap (λ (r : IndexingMap). foldedWith Done r) (c .folded-record .ensures)
+    ap (λ (r : IndexingMap). answeredMap Done r) (c .folded-record .ensures)
     ∙ assembled (s .args .m) (fr .fold-results .ensures) (not-false _ (f1 .if1 .left)) (fc .fold-constraints .ensures) (not-false _ (i .if2 .left)) (omega (arith, t .if3 .left))
 
 pub fold-in-spec : {M : Type 1} → statement M

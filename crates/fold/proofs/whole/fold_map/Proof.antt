@@ -2,7 +2,7 @@
 use borrow.Author.Needs.{needs}
 use mathlib.Core.Path.{sym, ap, _∙_}
 use Rattle.indexing.proofs.Formed.{accepted-of}
-use Rattle.fold.specs.FoldMap.{foldedAnswer}
+use Rattle.indexing.specs.Answers.{mapAnswer}
 use Rattle.fold.proofs.Assembled.{folded-done, folded-refused}
 use Rattle.fold.proofs.whole.fold_map.Statement.{statement}
 use Rattle.fold.proofs.whole.fold_map.Tie as tie
@@ -10,7 +10,7 @@ use Rattle.fold.proofs.whole.fold_map.Reads as reads
 use Rattle.fold.proofs.whole.fold_map.Lts as lts
 use Rattle.indexing.proofs.inner.judged.Reads as judged-reads
 use Rattle.fold.proofs.whole.fold_accepted.Reads as fold-accepted-reads
-use Rattle.fold.proofs.whole.refused.Reads as refused-reads
+use Rattle.indexing.proofs.inner.refused_map.Reads as refused-map-reads
 
 judged-requires : tie.Need-judged-requires
 judged-requires c κs = search needs
@@ -28,12 +28,12 @@ returns c =
     let e = c .before in
     let j = e .before .before in
     let m = j .before .args .m in
-    ap foldedAnswer (c .fold-accepted .ensures) ∙ folded-done m (sym (j .judged .ensures) ∙ e .enum-told .given .1)
+    ap mapAnswer (c .fold-accepted .ensures) ∙ folded-done m (sym (j .judged .ensures) ∙ e .enum-told .given .1)
 
 enum-known-r : tie.Need-enum-known-r
 enum-known-r c = search needs
 
-refused-requires : tie.Need-refused-requires
+refused-requires : tie.Need-refused-map-requires
 refused-requires c κs = search needs
 
 returns-2 : tie.Need-returns-2
@@ -41,7 +41,7 @@ returns-2 c =
     let r = c .before .before in
     let j = r .before .before in
     let m = j .before .args .m in
-    ap foldedAnswer (c .refused .ensures) ∙ folded-refused m _ (sym (j .judged .ensures) ∙ r .r .given .1)
+    ap mapAnswer (c .refused-map .ensures) ∙ folded-refused m _ (sym (j .judged .ensures) ∙ r .r .given .1)
 
 pub fold-map-spec : {M : Type 1} → statement M
 fold-map-spec =

@@ -8,8 +8,8 @@ use denote.Ref.{now}
 use lib.Dec.{eqb}
 use lib.ListN.{length}
 use Rattle.refusal.proofs.Judged.{kept}
-use Rattle.radix.proofs.Tests.{and-true, and-left}
-use Rattle.indexing.specs.Map.{goodParts, goodCounts, goodRanges, inBounds, inDomain}
+use Rattle.radix.proofs.Tests.{and-true, and-left, and-right}
+use Rattle.indexing.specs.Map.{goodParts, goodCounts, goodRanges, rightLength, inBounds, inDomain}
 use Rattle.indexing.specs.Ready.{Formed, Measured}
 use Rattle.indexing.specs.Answers.{resultValues}
 use Rattle.indexing.specs.declared.Run.the-variants as run
@@ -127,7 +127,8 @@ valued-requires : tie.Need-valued-requires
 unfolding inDomain
 valued-requires c κs =
     let a = start-6 c .args in
-    record { measured = measured (c .before .before); inside = and-left (inBounds (a .m) (a .ds .now) (a .ss .now)) _ (domain c) }
+    let inside = and-right (rightLength (a .m) (a .ds .now) (a .ss .now)) _ (domain c) in
+    record { measured = measured (c .before .before); inside = and-left (inBounds (a .m) (a .ds .now) (a .ss .now)) _ inside }
 
 returns-7 : tie.Need-returns-7
 unfolding resultValues

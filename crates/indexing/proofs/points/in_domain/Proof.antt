@@ -1,5 +1,6 @@
 -- `indexing::points::in_domain` meets its contract. Assumes nothing.
 use borrow.Author.Needs.{needs}
+use borrow.Author.Tests.{eq-eqb}
 use mathlib.Core.Path.{sym, _∙_}
 use Prim.Native.Nat.{_-_}
 use Rattle.indexing.specs.Map.{inDomain}
@@ -15,11 +16,15 @@ all-hold-requires c κs = record { measured = c .before .before .pre; inside = s
 
 returns : tie.Need-returns
 unfolding inDomain
-returns c = rw (sym (c .before .before .in-bounds .ensures) ∙ c .before .if1 .taken) (c .all-hold .ensures)
+returns c =
+    let p = c .before .before .before .pre in
+    rw (eq-eqb _ _ (p .long-dims), eq-eqb _ _ (p .long-ranges), sym (c .before .before .in-bounds .ensures) ∙ c .before .if1 .taken) (c .all-hold .ensures)
 
 returns-2 : tie.Need-returns-2
 unfolding inDomain
-returns-2 c = rw (sym (c .before .in-bounds .ensures) ∙ c .if1 .left)
+returns-2 c =
+    let p = c .before .before .pre in
+    rw (eq-eqb _ _ (p .long-dims), eq-eqb _ _ (p .long-ranges), sym (c .before .in-bounds .ensures) ∙ c .if1 .left)
 
 pub in-domain-spec : {M : Type 1} → statement M
 in-domain-spec =

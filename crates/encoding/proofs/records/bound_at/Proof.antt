@@ -1,12 +1,12 @@
--- `fold::whole::bound_at` meets its contract. Assumes nothing.
+-- `encoding::records::bound_at` meets its contract. Assumes nothing.
 use borrow.Author.Needs.{needs, sfits-of}
 use native.Mathlib.Omega.{arith}
 use mir.Facts.{toZ-ofZ}
-use Rattle.fold.proofs.Assembled.{bound-dim, bound-past-dims, bound-ranged, bound-past-ranges}
-use Rattle.fold.proofs.whole.bound_at.Statement.{statement}
-use Rattle.fold.proofs.whole.bound_at.Tie as tie
-use Rattle.fold.proofs.whole.bound_at.Reads as reads
-use Rattle.fold.proofs.whole.bound_at.Lts as lts
+use Rattle.encoding.proofs.KeptBounds.{bound-dim, bound-past-dims, bound-ranged, bound-past-ranges}
+use Rattle.encoding.proofs.records.bound_at.Statement.{statement}
+use Rattle.encoding.proofs.records.bound_at.Tie as tie
+use Rattle.encoding.proofs.records.bound_at.Reads as reads
+use Rattle.encoding.proofs.records.bound_at.Lts as lts
 
 mul-result : tie.Need-mul-result
 mul-result c = search needs

@@ -9,8 +9,8 @@ use lib.ListN.{length, getD, length-append, List·getD-append}
 use lib.Seq.{ext-getD, getD-at}
 use Rattle.expression.specs.Expression.{Expr}
 use Rattle.folding.proofs.Map.{AllTrees}
 use Rattle.encoding.proofs.Lists.{map-append}
-use Rattle.fold.specs.FoldMap.{listed}
+use Rattle.encoding.specs.Trees.{listed}
 
 module _ {A : Type 0} where
   pub listed-length : (f : ℕ → A) (n : ℕ) → length (listed f n) ≡ n

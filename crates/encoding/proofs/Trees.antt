@@ -17,11 +17,11 @@ use Rattle.indexing.proofs.Formed.{counts, tree-at}
 use Rattle.folding.specs.Map.{Constraint, constraintTrees}
 use Rattle.folding.proofs.Map.{AllTrees}
 use Rattle.folding.proofs.Theorems.{GoodTree, read-good}
 use Rattle.encoding.specs.Encode.{treesOf, encodeMap, Fitting}
 use Rattle.encoding.proofs.Lists.{map-at}
 use Rattle.encoding.proofs.Encoded.{encoded-tree, encoded-interval}
-use Rattle.fold.specs.FoldMap.{exprOf, exprAt, constraintAt, resultTrees, mapConstraints}
-use Rattle.fold.proofs.Listed.{listed-is, listed-map, all-listed}
+use Rattle.encoding.specs.Trees.{exprOf, exprAt, constraintAt, resultTrees, mapConstraints}
+use Rattle.encoding.proofs.Listed.{listed-is, listed-map, all-listed}
 
 -- ---- a map to which numbers 2 and 7 do not apply
 

@@ -1,4 +1,4 @@
--- `fold::whole::kept_bounds` meets its contract. Assumes nothing.
+-- `encoding::records::kept_bounds` meets its contract. Assumes nothing.
 use borrow.Author.Needs.{needs, sfits-of}
 use mathlib.Core.Path.{_≡_, refl, _∙_}
 use Prim.Native.Nat.{ℕ, _-_, _<_, _≤_}
@@ -7,13 +7,13 @@ use lib.IntN.{pos}
 use lib.ListN.{length, getD, length-set}
 use mir.Facts.{toZ-ofZ}
 use Rattle.expression.specs.Node.{maxPlaces}
 use Rattle.encoding.specs.Encode.{boundsOf}
-use Rattle.fold.proofs.Assembled.{bounds-next, bounds-all}
-use Rattle.fold.proofs.whole.kept_bounds.Statement.{statement}
-use Rattle.fold.proofs.whole.kept_bounds.Tie as tie
-use Rattle.fold.proofs.whole.kept_bounds.Reads as reads
-use Rattle.fold.proofs.whole.kept_bounds.Lts as lts
-use Rattle.fold.proofs.whole.bound_at.Reads as bound-at-reads
+use Rattle.encoding.proofs.KeptBounds.{bounds-next, bounds-all}
+use Rattle.encoding.proofs.records.kept_bounds.Statement.{statement}
+use Rattle.encoding.proofs.records.kept_bounds.Tie as tie
+use Rattle.encoding.proofs.records.kept_bounds.Reads as reads
+use Rattle.encoding.proofs.records.kept_bounds.Lts as lts
+use Rattle.encoding.proofs.records.bound_at.Reads as bound-at-reads
 
 abbrev Inv-loop : tie.InvT-loop
 Inv-loop bounds dims ranges out₀ i₀ out i =
