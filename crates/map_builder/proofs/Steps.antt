@@ -12,8 +12,8 @@ use Rattle.expression.specs.Node.{maxVariables}
 use Rattle.expression.specs.declared.Node.{Node}
 use Rattle.encoding.specs.Postfix.{variableOf, postfix}
 use Rattle.encoding.proofs.Lists.{map-at}
-use Rattle.fold.specs.FoldMap.{listed}
-use Rattle.fold.proofs.Listed.{listed-length, listed-is}
+use Rattle.encoding.specs.Trees.{listed}
+use Rattle.encoding.proofs.Listed.{listed-length, listed-is}
 use Rattle.map_builder.specs.Raw.{Raw, upTo, wholeOf}
 use Rattle.map_builder.specs.Draft.{emptyDraft, addDimension, pushNode, pushVariable, endResult, steps, addVariable}
 use Rattle.map_builder.specs.declared.Draft.{Draft}

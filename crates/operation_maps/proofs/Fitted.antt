@@ -20,8 +20,8 @@ use Rattle.encoding.specs.Encode.{treesOf, nodesOf, AllEncodable, Fitting}
 use Rattle.encoding.proofs.Reading.{postfix-length}
 use Rattle.encoding.proofs.Encoded.{nodes-append}
 use Rattle.encoding.proofs.Lists.{map-append}
-use Rattle.fold.specs.FoldMap.{listed}
-use Rattle.fold.proofs.Listed.{listed-length}
+use Rattle.encoding.specs.Trees.{listed}
+use Rattle.encoding.proofs.Listed.{listed-length}
 use Rattle.shape.specs.Dimensions.{place}
 use Rattle.shape.specs.Shape.{maxRank}
 use Rattle.operation_maps.specs.declared.Axis.{Axis}

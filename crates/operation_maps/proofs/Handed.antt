@@ -10,12 +10,12 @@ use lib.ListN.{length, getD, length-append, length-map, List·getD-append}
 use lib.Seq.{getD-append-add}
 use Rattle.refusal.specs.Judge.{judge}
 use Rattle.refusal.specs.declared.Verdict.the-variants.{Done}
-use Rattle.radix.proofs.Tests.{and-left}
+use Rattle.radix.proofs.Tests.{and-left, and-right}
 use Rattle.expression.specs.Expression.{Expr, Range, span, In, eval}
 use Rattle.expression.specs.Node.{maxVariables}
 use Rattle.expression.specs.Value.{pointOf, treeValue}
 use Rattle.expression.specs.Decode.{tree}
-use Rattle.indexing.specs.Map.{valueAt, inBounds, inDomain, Domain}
+use Rattle.indexing.specs.Map.{valueAt, rightLength, inBounds, inDomain, Domain}
 use Rattle.indexing.specs.declared.IndexingMap.{IndexingMap}
 use Rattle.indexing.proofs.Theorems.{domain-is}
 use Rattle.folding.specs.Map.{Constraint, constraintTrees, valuesOf, Holds}
@@ -23,8 +23,9 @@ use Rattle.encoding.specs.Encode.{filled, treesOf, encodeMap, Fitting}
 use Rattle.encoding.proofs.Lists.{map-at}
 use Rattle.encoding.proofs.Filled.{filled-length, filled-at}
 use Rattle.encoding.proofs.Encoded.{encoded-tree, encoded-dimension, encoded-range, encoded-interval}
-use Rattle.fold.specs.FoldMap.{listed, foldRules, foldedMap}
-use Rattle.fold.proofs.Listed.{listed-is, listed-same}
+use Rattle.encoding.specs.Trees.{listed}
+use Rattle.fold.specs.FoldMap.{foldRules, foldedMap}
+use Rattle.encoding.proofs.Listed.{listed-is, listed-same}
 use Rattle.fold.proofs.Theorems.{same-counts, same-domain, same-values}
 use Rattle.map_builder.specs.Raw.{Raw, lows, highs, placesOf, encoded, Fits}
 use Rattle.operation_maps.specs.Points.{Inside, Names, Sends}
@@ -153,17 +154,19 @@ module _ (m : Raw) (w : Fits m) where
     unfolding encoded encodeMap
     domain-to i j h =
         record {
+          long-dims = inside-length i;
+          long-ranges = inside-length j;
           dims = λ n l. subst (In (getD x n (pos 0))) (sym (dims-same n l)) (inside-at i n l);
           ranges = λ n l. subst (In (getD v n (pos 0))) (sym (ranges-same n l)) (inside-at j n l);
           holds = λ k l. subst (In _) (sym (interval-same k l)) (subst (λ (z : ℤ). In z (getD (m .constraints) k other .interval)) (sym (value-constraint k l)) (holds-at (pointOf x v) (m .constraints) other h k l));
         }
 
-    domain-from : length x ≡ D → length v ≡ S → Domain (encoded m) x v → Inside x (m .dims) × (Inside v (m .ranges) × Holds (pointOf x v) (m .constraints))
+    domain-from : Domain (encoded m) x v → Inside x (m .dims) × (Inside v (m .ranges) × Holds (pointOf x v) (m .constraints))
     unfolding encoded encodeMap
-    domain-from a b h = (
-      inside-of x (m .dims) a (λ n l. subst (In (getD x n (pos 0))) (dims-same n l) (h .dims n l)),
+    domain-from h = (
+      inside-of x (m .dims) (h .long-dims) (λ n l. subst (In (getD x n (pos 0))) (dims-same n l) (h .dims n l)),
       (
-        inside-of v (m .ranges) b (λ n l. subst (In (getD v n (pos 0))) (ranges-same n l) (h .ranges n l)),
+        inside-of v (m .ranges) (h .long-ranges) (λ n l. subst (In (getD v n (pos 0))) (ranges-same n l) (h .ranges n l)),
         holds-of (pointOf x v) (m .constraints) other
             (λ k l. subst (In _) (interval-same k l) (subst (λ (z : ℤ). In z (span (getD (encoded m .«constraint_lower») k (pos 0)) (getD (encoded m .«constraint_upper») k (pos 0)))) (value-constraint k l) (h .holds k l))),
       ),
@@ -178,15 +181,13 @@ module _ (m : Raw) (w : Fits m) where
       to h =
           record {
             values = h .values;
-            long-dims = inside-length (h .inside-dims);
-            long-ranges = inside-length (h .inside-ranges);
             domain = domain-to x (h .values) (h .inside-dims) (h .inside-ranges) (h .holds);
             results = values-same x (h .values) ∙ h .results;
           }
 
       from : Sends (encoded m) x y → Names m x y
       from h =
-          let p = domain-from x (h .values) (h .long-dims) (h .long-ranges) (h .domain) in
+          let p = domain-from x (h .values) (h .domain) in
           record {
             values = h .values;
             inside-dims = p .0;
@@ -199,7 +200,7 @@ module _ (m : Raw) (w : Fits m) where
 
 domain-inside : (m : IndexingMap) (ds ss : List ℤ) → Domain m ds ss → inBounds m ds ss ≡ true
 unfolding inDomain
-domain-inside m ds ss h = and-left (inBounds m ds ss) _ (domain-is m ds ss .1 h)
+domain-inside m ds ss h = and-left (inBounds m ds ss) _ (and-right (rightLength m ds ss) _ (domain-is m ds ss .1 h))
 
 module _ (m : IndexingMap) (h : judge (foldRules m) ≡ Done) where
   folded-values : (x v : List ℤ) → Domain m x v → listed (valueAt (foldedMap m) x v) (foldedMap m .results) ≡ listed (valueAt m x v) (m .results)
@@ -215,8 +216,6 @@ module _ (m : IndexingMap) (h : judge (foldRules m) ≡ Done) where
       to p =
           record {
             values = p .values;
-            long-dims = p .long-dims ∙ sym (same-counts m h .0);
-            long-ranges = p .long-ranges ∙ sym (same-counts m h .1 .0);
             domain = same-domain m h x (p .values) .0 (p .domain);
             results = folded-values x (p .values) (p .domain) ∙ p .results;
           }
@@ -226,8 +225,6 @@ module _ (m : IndexingMap) (h : judge (foldRules m) ≡ Done) where
           let q = same-domain m h x (p .values) .1 (p .domain) in
           record {
             values = p .values;
-            long-dims = p .long-dims ∙ same-counts m h .0;
-            long-ranges = p .long-ranges ∙ same-counts m h .1 .0;
             domain = q;
             results = sym (folded-values x (p .values) q) ∙ p .results;
           }

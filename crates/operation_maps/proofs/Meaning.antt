@@ -19,8 +19,8 @@ use Rattle.shape.specs.Shape.{maxRank, sizesOf, goodShape}
 use Rattle.shape.specs.Dimensions.{inRange, free, earlierPlace, laterPlace}
 use Rattle.shape.specs.declared.Shape.{Shape}
 use Rattle.shape.proofs.Permutations.{free-apart}
-use Rattle.fold.specs.FoldMap.{listed}
-use Rattle.fold.proofs.Listed.{listed-length}
+use Rattle.encoding.specs.Trees.{listed}
+use Rattle.encoding.proofs.Listed.{listed-length}
 use Rattle.operation_maps.specs.declared.Axis.{Axis}
 use Rattle.operation_maps.specs.declared.Axis.the-variants.{Keep, Flip, Cut, Shift}
 use Rattle.map_builder.specs.Raw.{Raw, Fits}

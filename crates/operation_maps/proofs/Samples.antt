@@ -15,7 +15,7 @@ use Rattle.expression.specs.Expression.{d, s, floordiv, modulo, Expr, Range, sp
 use Rattle.indexing.specs.declared.IndexingMap.{IndexingMap}
 use Rattle.folding.specs.Map.{Constraint}
 use Rattle.encoding.specs.Encode.{encodeMap}
-use Rattle.fold.specs.FoldMap.{noMap}
+use Rattle.indexing.specs.Answers.{noMap}
 use Rattle.fold.proofs.Samples.{folds-maps}
 use Rattle.map_builder.specs.Raw.{Raw, encoded, upTo, wholeOf}
 use Rattle.operation_maps.specs.Axes.{axesOut, axesIn}

@@ -19,8 +19,8 @@ use Rattle.expression.specs.Expression.{Kind, d, s, Expr, Range, eval}
 use Rattle.expression.specs.Value.{pointOf}
 use Rattle.folding.specs.Map.{valuesOf, Holds}
 use Rattle.encoding.proofs.Lists.{map-at}
-use Rattle.fold.specs.FoldMap.{listed}
-use Rattle.fold.proofs.Listed.{listed-length, listed-at, listed-same, listed-is, listed-map}
+use Rattle.encoding.specs.Trees.{listed}
+use Rattle.encoding.proofs.Listed.{listed-length, listed-at, listed-same, listed-is, listed-map}
 use Rattle.operation_maps.specs.Points as points
 use Rattle.map_builder.specs.Raw.{Raw, wholeOf}
 use Rattle.operation_maps.specs.Points.{Inside, Names, Points, Means}

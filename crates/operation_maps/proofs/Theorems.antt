@@ -13,7 +13,8 @@ use Rattle.refusal.specs.declared.Verdict.the-variants.{Done, Refused}
 use Rattle.refusal.proofs.Judged.{after-done, before-done}
 use Rattle.refusal.proofs.Theorems.{number-positive}
 use Rattle.indexing.specs.declared.IndexingMap.{IndexingMap}
-use Rattle.fold.specs.FoldMap.{noMap, foldRules, foldedMap}
+use Rattle.indexing.specs.Answers.{noMap}
+use Rattle.fold.specs.FoldMap.{foldRules, foldedMap}
 use Rattle.map_builder.specs.Raw.{Raw, encoded, Fits}
 use Rattle.operation_maps.specs.Points.{Names, Sends, Points, Means}
 use Rattle.operation_maps.specs.Operation.{foldedAnswer, Operation, operationRules, outputToInput, inputToOutput, Pairs, outputToInputAnswer, inputToOutputAnswer}

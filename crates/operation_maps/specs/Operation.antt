@@ -5,14 +5,16 @@ use Prim.Native.Nat.{ℕ, zero, suc, _+_, _^_}
 use lib.Dec.{leb, ltb, eqb}
 use lib.ListN.{length, getD, take, set}
 use Rattle.radix.specs.Radix.{maxSize, maxCount, prod, isWithin, every}
-use Rattle.refusal.specs.Number.{Answer, answered}
-use Rattle.refusal.specs.Judge.{Rule, rule, judge}
+use Rattle.refusal.specs.Number.{Answer}
+use Rattle.refusal.specs.Judge.{Rule, rule}
 use Rattle.refusal.specs.declared.Refusal.the-variants.{ShapeLimits, Attribute, Repeat}
 use Rattle.shape.specs.Shape.{maxRank, sizesOf, goodShape}
 use Rattle.shape.specs.Dimensions.{inRange, free, earlierPlace, laterPlace}
 use Rattle.shape.specs.declared.Shape.{Shape}
 use Rattle.indexing.specs.declared.IndexingMap.{IndexingMap}
-use Rattle.fold.specs.FoldMap.{listed, noMap, foldRules, foldedMap}
+use Rattle.indexing.specs.Answers.{mapBy}
+use Rattle.encoding.specs.Trees.{listed}
+use Rattle.fold.specs.FoldMap.{foldRules, foldedMap}
 use Rattle.map_builder.specs.Raw.{Raw, encoded}
 use Rattle.operation_maps.specs.declared.Axis.{Axis}
 use Rattle.operation_maps.specs.declared.Axis.the-variants.{Keep, Flip, Cut, Shift}
@@ -224,7 +226,7 @@ Pairs (Operation.reshape x y) o i = reshapePairs (sizesOf y) (sizesOf x) o i
 -- ---- the answers: the operation's rules, then those of folding; the folded map, or a map of zeros
 
 abbrev pub foldedAnswer : List Rule → IndexingMap → Answer IndexingMap
-foldedAnswer rules m = answered (noMap ∷ []) (judge (rules ++ foldRules m)) (foldedMap m ∷ [])
+foldedAnswer rules m = mapBy (rules ++ foldRules m) (foldedMap m)
 
 unfoldable pub outputToInputAnswer : Operation → Answer IndexingMap
 outputToInputAnswer op = foldedAnswer (operationRules op) (encoded (outputToInput op))

@@ -4,13 +4,12 @@ use mathlib.Core.Logic.{_↔_}
 use mathlib.Core.List.{List, [], _∷_, map}
 use Prim.Native.Nat.{ℕ}
 use lib.IntN.{ℤ, pos}
-use lib.ListN.{length}
 use Rattle.expression.specs.Expression.{Range, In}
 use Rattle.expression.specs.Value.{pointOf}
-use Rattle.indexing.specs.Map.{valueAt, Domain}
+use Rattle.indexing.specs.Map.{Domain}
 use Rattle.indexing.specs.declared.IndexingMap.{IndexingMap}
 use Rattle.folding.specs.Map.{valuesOf, Holds}
-use Rattle.fold.specs.FoldMap.{listed}
+use Rattle.encoding.specs.Trees.{valuesAt}
 use Rattle.map_builder.specs.Raw.{Raw}
 
 -- ---- the pairs of points that a map names
@@ -31,10 +30,8 @@ pub record Names (m : Raw) (x y : List ℤ) : Type 0 where
 -- the same of a record
 pub record Sends (m : IndexingMap) (x y : List ℤ) : Type 0 where
   pub values : List ℤ
-  pub long-dims : length x ≡ m .dims
-  pub long-ranges : length values ≡ m .ranges
   pub domain : Domain m x values
-  pub results : listed (valueAt m x values) (m .results) ≡ y
+  pub results : valuesAt m x values ≡ y
 
 -- ---- a relation between points whose coordinates are from 0 on
 

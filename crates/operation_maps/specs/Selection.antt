@@ -8,7 +8,7 @@ use lib.ListN.{length, getD}
 use Rattle.radix.specs.Radix.{In}
 use Rattle.shape.specs.Dimensions.{place}
 use Rattle.expression.specs.Expression.{d, s, Expr}
-use Rattle.fold.specs.FoldMap.{listed}
+use Rattle.encoding.specs.Trees.{listed}
 use Rattle.map_builder.specs.Raw.{Raw, wholeOf}
 use Rattle.operation_maps.specs.Lists.{select, isListed, others}
 
