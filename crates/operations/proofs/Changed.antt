@@ -19,13 +19,13 @@ use Rattle.operation_maps.specs.declared.Way.{Way}
 use Rattle.operation_maps.specs.declared.Way.the-variants.{OutputToInput, InputToOutput}
 use Rattle.operation_maps.specs.declared.Axis.{Axis}
 use Rattle.operation_maps.specs.declared.Axis.the-variants.{Keep, Flip, Shift}
-use Rattle.operations.specs.declared.Change.{Change}
-use Rattle.operations.specs.declared.Change.the-variants.{Kept, Reversed, Joined, Sliced}
+use Rattle.operation_builder.specs.declared.Change.{Change}
+use Rattle.operation_builder.specs.declared.Change.the-variants.{Kept, Reversed, Joined, Sliced}
 use Rattle.map_builder.specs.Raw.{encoded}
 use Rattle.operation_maps.specs.Lists.{isListed}
 use Rattle.operation_maps.specs.Axes.{axesOut, axesIn}
-use Rattle.operations.specs.Family.{axesRaw, Ready, isOut}
-use Rattle.operations.specs.AxisDraft.{AllReady}
+use Rattle.operation_builder.specs.Family.{axesRaw, Ready, isOut}
+use Rattle.operation_builder.specs.AxisDraft.{AllReady}
 use Rattle.operation_maps.specs.Operation.{Operation, rankOf, goodCut, goodCuts, operationRules, rawOf}
 use Rattle.operation_maps.proofs.Meaning.{Limited, limited-of}
 use Rattle.map_builder.proofs.Steps.{sized-at}

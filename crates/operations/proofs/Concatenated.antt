@@ -22,11 +22,11 @@ use Rattle.shape.proofs.Limits.{Limits, limits}
 use Rattle.operation_maps.specs.declared.Way.{Way}
 use Rattle.operation_maps.specs.declared.Way.the-variants.{OutputToInput, InputToOutput}
 use Rattle.operations.specs.declared.Operands.{Operands}
-use Rattle.operations.specs.declared.Change.the-variants.{Joined}
+use Rattle.operation_builder.specs.declared.Change.the-variants.{Joined}
 use Rattle.map_builder.specs.Raw.{encoded}
 use Rattle.operation_maps.specs.Axes.{axesOut, axesIn}
-use Rattle.operations.specs.Family.{axesRaw, isOut}
-use Rattle.operations.specs.AxisDraft.{AllReady}
+use Rattle.operation_builder.specs.Family.{axesRaw, isOut}
+use Rattle.operation_builder.specs.AxisDraft.{AllReady}
 use Rattle.operation_maps.specs.Operation.{Operation, maxOperands, noShape, operands, operandSizes, joinedBefore, joinedSizes, alike, allAlike, goodSizes, operationRules, rawOf}
 use Rattle.operations.specs.Join.{GoodOperands, Some, SumRoom, Joins}
 use Rattle.operation_maps.proofs.Meaning.{limited-of, joined-up, joined-small}

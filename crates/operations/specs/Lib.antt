@@ -1,6 +1,2 @@
--- What the code makes and asks for, step by step; what it answers is defined in operation_maps.
-pub mod Family
-pub mod AxisDraft
-pub mod SelectionDraft
-pub mod ReshapeDraft
+-- What the code asks for on its way; what it answers is defined in operation_maps.
 pub mod Join

@@ -1,9 +1,9 @@
 // Operations that treat each dimension by itself.
-use super::Change;
-use super::axes;
 use super::judging;
 use super::ways;
 use indexing::AnsweredMap;
+use operation_builder::Change;
+use operation_builder::inner;
 use operation_maps::Way;
 use refusal::Verdict;
 use shape::Shape;
@@ -17,7 +17,7 @@ pub fn elementwise(way: Way, input: Shape) -> AnsweredMap
 {
     match judging::judge_shape(input) {
         Verdict::Done => {
-            return fold::fold_map(axes::plain_axes(ways::is_out(way), Change::Kept, input));
+            return fold::fold_map(inner::plain_axes(ways::is_out(way), Change::Kept, input));
         }
         Verdict::Refused(r) => {
             return indexing::inner::refused_map(r);
@@ -31,7 +31,7 @@ pub fn reverse(way: Way, input: Shape, dimensions: &[u64]) -> AnsweredMap
 {
     match judging::judge_dimensions(input, dimensions) {
         Verdict::Done => {
-            return fold::fold_map(axes::shape_axes(
+            return fold::fold_map(inner::shape_axes(
                 ways::is_out(way),
                 Change::Reversed,
                 input,
@@ -52,7 +52,7 @@ pub fn slice(way: Way, input: Shape, starts: &[u64], limits: &[u64], strides: &[
 {
     match judging::judge_slice(input, starts, limits, strides) {
         Verdict::Done => {
-            return fold::fold_map(axes::shape_axes(
+            return fold::fold_map(inner::shape_axes(
                 ways::is_out(way),
                 Change::Sliced,
                 input,

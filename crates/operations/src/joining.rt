@@ -1,11 +1,11 @@
 // Concatenation.
-use super::Change;
 use super::MAX_OPERANDS;
 use super::Operands;
-use super::axes;
 use super::ways;
 use indexing::AnsweredMap;
 use indexing::IndexingMap;
+use operation_builder::Change;
+use operation_builder::inner;
 use operation_maps::Way;
 use refusal::Refusal;
 use refusal::Verdict;
@@ -22,8 +22,8 @@ ghost use Rattle.shape.specs.Shape.{sizesOf, goodShape};
 ghost use Rattle.indexing.specs.Answers.{mapAnswer};
 ghost use mathlib.Core.List.{[]};
 ghost use Rattle.map_builder.specs.Raw.{encoded};
-ghost use Rattle.operations.specs.Family.{axesRaw};
-ghost use Rattle.operations.specs.declared.Change.the-variants.{Joined};
+ghost use Rattle.operation_builder.specs.Family.{axesRaw};
+ghost use Rattle.operation_builder.specs.declared.Change.the-variants.{Joined};
 ghost use Rattle.operation_maps.specs.Operation.{Operation, operationRules, operationAnswer, maxOperands, noShape, operands, operandSizes, joinedBefore, joinedSizes, alike, allAlike, goodSizes, goodOperands, goodJoin};
 ghost use Rattle.operations.specs.Join.{GoodOperands, Some, SumRoom, Joins};
 
@@ -52,7 +52,7 @@ fn size_of(shape: Shape, dimension: u64) -> u64
 {
     let rank = shape.rank;
     let sizes = shape.sizes;
-    axes::entry(&sizes[..rank], dimension as usize)
+    inner::entry(&sizes[..rank], dimension as usize)
 }
 
 // One dimension of two operands.
@@ -199,7 +199,7 @@ fn joined_map(out: bool, x: Operands, dimension: u64, operand: u64) -> IndexingM
 {
     let k = operand as usize;
     let by = joined_before(x, dimension, k);
-    axes::plain_axes(out, Change::Joined(dimension, by), operand_of(x, k))
+    inner::plain_axes(out, Change::Joined(dimension, by), operand_of(x, k))
 }
 
 // The map of a concatenation to or from one of its operands, folded.

@@ -1,12 +1,9 @@
 // The operations' maps, output to input and input to output: judged, built and folded.
-mod axes;
 mod changing;
-mod digits;
 mod joining;
 mod judging;
 mod reshaping;
 mod selecting;
-mod selections;
 mod ways;
 
 pub use changing::elementwise;
@@ -30,19 +27,4 @@ pub const MAX_STRIDE: u64 = 1048576;
 pub struct Operands {
     pub count: usize,
     pub shapes: [Shape; MAX_OPERANDS],
-}
-
-// What an operation does to its dimensions: nothing, turns the listed round, Joined(dimension, by), cuts them.
-pub enum Change {
-    Kept,
-    Reversed,
-    Joined(u64, u64),
-    Sliced,
-}
-
-// The first count dimensions that a list leaves, in their order, and their sizes; 0 past them.
-pub struct Kept {
-    pub count: usize,
-    pub dims: [u64; 6],
-    pub sizes: [u64; 6],
 }

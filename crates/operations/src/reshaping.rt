@@ -1,8 +1,8 @@
 // Reshape.
-use super::digits;
 use super::ways;
 use indexing::AnsweredMap;
 use indexing::IndexingMap;
+use operation_builder::inner;
 use operation_maps::Way;
 use refusal::Refusal;
 use refusal::Verdict;
@@ -38,10 +38,10 @@ fn reshape_either(way: Way, input: Shape, output: Shape) -> IndexingMap
 {
     match way {
         Way::OutputToInput => {
-            return digits::shape_reshape(output, input);
+            return inner::shape_reshape(output, input);
         }
         Way::InputToOutput => {
-            return digits::shape_reshape(input, output);
+            return inner::shape_reshape(input, output);
         }
     }
 }

@@ -1,8 +1,8 @@
 // Operations whose smaller point has some of the larger point's coordinates.
 use super::judging;
-use super::selections;
 use super::ways;
 use indexing::AnsweredMap;
+use operation_builder::inner;
 use operation_maps::Way;
 use refusal::Verdict;
 use shape::Shape;
@@ -16,11 +16,7 @@ pub fn transpose(way: Way, input: Shape, dimensions: &[u64]) -> AnsweredMap
 {
     match judging::judge_transpose(input, dimensions) {
         Verdict::Done => {
-            return fold::fold_map(selections::shape_selection(
-                ways::is_out(way),
-                input,
-                dimensions,
-            ));
+            return fold::fold_map(inner::shape_selection(ways::is_out(way), input, dimensions));
         }
         Verdict::Refused(r) => {
             return indexing::inner::refused_map(r);
@@ -34,11 +30,7 @@ pub fn broadcast(way: Way, input: Shape, output: Shape, dimensions: &[u64]) -> A
 {
     match judging::judge_broadcast(input, output, dimensions) {
         Verdict::Done => {
-            return fold::fold_map(selections::shape_selection(
-                !ways::is_out(way),
-                output,
-                dimensions,
-            ));
+            return fold::fold_map(inner::shape_selection(!ways::is_out(way), output, dimensions));
         }
         Verdict::Refused(r) => {
             return indexing::inner::refused_map(r);
@@ -52,7 +44,7 @@ pub fn reduce(way: Way, input: Shape, dimensions: &[u64]) -> AnsweredMap
 {
     match judging::judge_dimensions(input, dimensions) {
         Verdict::Done => {
-            return fold::fold_map(selections::rest_selection(ways::is_out(way), input, dimensions));
+            return fold::fold_map(inner::rest_selection(ways::is_out(way), input, dimensions));
         }
         Verdict::Refused(r) => {
             return indexing::inner::refused_map(r);
@@ -66,11 +58,7 @@ pub fn reduce_init(way: Way, input: Shape, dimensions: &[u64]) -> AnsweredMap
 {
     match judging::judge_dimensions(input, dimensions) {
         Verdict::Done => {
-            return fold::fold_map(selections::none_selection(
-                !ways::is_out(way),
-                input,
-                dimensions,
-            ));
+            return fold::fold_map(inner::none_selection(!ways::is_out(way), input, dimensions));
         }
         Verdict::Refused(r) => {
             return indexing::inner::refused_map(r);

@@ -1,7 +1,7 @@
 // The two ways.
 use operation_maps::Way;
 ghost use mathlib.Core.Path.{_≡_};
-ghost use Rattle.operations.specs.Family.{isOut};
+ghost use Rattle.operation_builder.specs.Family.{isOut};
 
 // Whether the map starts from the output.
 pub fn is_out(way: Way) -> bool

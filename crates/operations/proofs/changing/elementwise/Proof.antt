@@ -10,7 +10,7 @@ use Rattle.operations.proofs.changing.elementwise.Tie as tie
 use Rattle.operations.proofs.changing.elementwise.Reads as reads
 use Rattle.operations.proofs.changing.elementwise.Lts as lts
 use Rattle.fold.proofs.fold_map.Reads as fold-map-reads
-use Rattle.operations.proofs.axes.plain_axes.Reads as plain-axes-reads
+use Rattle.operation_builder.proofs.inner.plain_axes.Reads as plain-axes-reads
 use Rattle.operations.proofs.judging.judge_shape.Reads as judge-shape-reads
 use Rattle.operations.proofs.ways.is_out.Reads as is-out-reads
 use Rattle.indexing.proofs.inner.refused_map.Reads as refused-map-reads

@@ -11,7 +11,7 @@ use Rattle.operations.proofs.changing.slice.Tie as tie
 use Rattle.operations.proofs.changing.slice.Reads as reads
 use Rattle.operations.proofs.changing.slice.Lts as lts
 use Rattle.fold.proofs.fold_map.Reads as fold-map-reads
-use Rattle.operations.proofs.axes.shape_axes.Reads as shape-axes-reads
+use Rattle.operation_builder.proofs.inner.shape_axes.Reads as shape-axes-reads
 use Rattle.operations.proofs.judging.judge_slice.Reads as judge-slice-reads
 use Rattle.operations.proofs.ways.is_out.Reads as is-out-reads
 use Rattle.indexing.proofs.inner.refused_map.Reads as refused-map-reads

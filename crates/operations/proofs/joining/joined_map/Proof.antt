@@ -10,7 +10,7 @@ use Rattle.operations.proofs.joining.joined_map.Statement.{statement}
 use Rattle.operations.proofs.joining.joined_map.Tie as tie
 use Rattle.operations.proofs.joining.joined_map.Reads as reads
 use Rattle.operations.proofs.joining.joined_map.Lts as lts
-use Rattle.operations.proofs.axes.plain_axes.Reads as plain-axes-reads
+use Rattle.operation_builder.proofs.inner.plain_axes.Reads as plain-axes-reads
 use Rattle.operations.proofs.joining.joined_before.Reads as joined-before-reads
 use Rattle.operations.proofs.joining.operand_of.Reads as operand-of-reads
 

@@ -8,7 +8,7 @@ use Rattle.operations.proofs.reshaping.reshape_either.Statement.{statem
 use Rattle.operations.proofs.reshaping.reshape_either.Tie as tie
 use Rattle.operations.proofs.reshaping.reshape_either.Reads as reads
 use Rattle.operations.proofs.reshaping.reshape_either.Lts as lts
-use Rattle.operations.proofs.digits.shape_reshape.Reads as shape-reshape-reads
+use Rattle.operation_builder.proofs.inner.shape_reshape.Reads as shape-reshape-reads
 
 enum-told : tie.Need-enum-told
 enum-told c = search needs

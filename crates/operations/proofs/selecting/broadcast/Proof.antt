@@ -12,7 +12,7 @@ use Rattle.fold.proofs.fold_map.Reads as fold-map-reads
 use Rattle.operations.proofs.judging.judge_broadcast.Reads as judge-broadcast-reads
 use Rattle.operations.proofs.ways.is_out.Reads as is-out-reads
 use Rattle.indexing.proofs.inner.refused_map.Reads as refused-map-reads
-use Rattle.operations.proofs.selections.shape_selection.Reads as shape-selection-reads
+use Rattle.operation_builder.proofs.inner.shape_selection.Reads as shape-selection-reads
 
 abbrev op : tie.Start → Operation
 op s = Operation.broadcast (s .args .input) (s .args .output) (now (s .args .dimensions))

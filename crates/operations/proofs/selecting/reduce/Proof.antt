@@ -12,7 +12,7 @@ use Rattle.fold.proofs.fold_map.Reads as fold-map-reads
 use Rattle.operations.proofs.judging.judge_dimensions.Reads as judge-dimensions-reads
 use Rattle.operations.proofs.ways.is_out.Reads as is-out-reads
 use Rattle.indexing.proofs.inner.refused_map.Reads as refused-map-reads
-use Rattle.operations.proofs.selections.rest_selection.Reads as rest-selection-reads
+use Rattle.operation_builder.proofs.inner.rest_selection.Reads as rest-selection-reads
 
 abbrev op : tie.Start → Operation
 op s = Operation.reduce (s .args .input) (now (s .args .dimensions))

@@ -11,7 +11,7 @@ use Rattle.operations.proofs.selecting.reduce_init.Lts as lts
 use Rattle.fold.proofs.fold_map.Reads as fold-map-reads
 use Rattle.operations.proofs.judging.judge_dimensions.Reads as judge-dimensions-reads
 use Rattle.operations.proofs.ways.is_out.Reads as is-out-reads
-use Rattle.operations.proofs.selections.none_selection.Reads as none-selection-reads
+use Rattle.operation_builder.proofs.inner.none_selection.Reads as none-selection-reads
 use Rattle.indexing.proofs.inner.refused_map.Reads as refused-map-reads
 
 abbrev op : tie.Start → Operation
