@@ -1,6 +1,6 @@
 -- A map made by steps: how it grows, and what it means. Assumes nothing.
 use mathlib.Core.Path.{_≡_, refl, sym, ap, _∙_, subst}
-use mathlib.Core.List.{List, [], _∷_, _++_, map}
+use mathlib.Core.List.{List, [], map}
 use Prim.Native.Nat.{ℕ, zero, suc, _+_, _*_, _<_, _≤_}
 use native.Mathlib.Omega.{arith}
 use native.Mathlib.Numerals.{add-one}
@@ -9,13 +9,12 @@ use lib.ListN.{length, getD, length-map}
 use Rattle.radix.specs.Radix.{maxSize, Bounded}
 use Rattle.expression.specs.Expression.{d, Expr, Range}
 use Rattle.expression.specs.Node.{maxVariables}
-use Rattle.expression.specs.declared.Node.{Node}
 use Rattle.encoding.specs.Postfix.{variableOf, postfix}
 use Rattle.encoding.proofs.Lists.{map-at}
 use Rattle.encoding.specs.Trees.{listed}
 use Rattle.encoding.proofs.Listed.{listed-length, listed-is}
 use Rattle.map_builder.specs.Raw.{Raw, upTo, wholeOf}
-use Rattle.map_builder.specs.Draft.{emptyDraft, addDimension, pushNode, pushVariable, endResult, steps, addVariable}
+use Rattle.map_builder.specs.Draft.{emptyDraft, addDimension, pushNode, pushVariable, steps, addVariable}
 use Rattle.map_builder.specs.declared.Draft.{Draft}
 use Rattle.map_builder.proofs.Drafted.{Drafted, empty-drafted, dimension-drafted, node-drafted, result-drafted, variable-value}
 

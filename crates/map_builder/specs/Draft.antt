@@ -9,7 +9,6 @@ use lib.ListN.{length, getD, set}
 use Rattle.radix.specs.Radix.{maxSize, maxCount, prod, Bounded}
 use Rattle.expression.specs.Node.{maxVariables, maxNodes}
 use Rattle.indexing.specs.Map.{maxResults}
-use Rattle.indexing.specs.declared.IndexingMap.{IndexingMap}
 use Rattle.indexing.specs.Answers.{noMap}
 use Rattle.map_builder.specs.declared.Draft.{Draft}
 

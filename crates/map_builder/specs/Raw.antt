@@ -1,5 +1,5 @@
 -- A map before it is folded, as lists of trees: the bounds of its variables, its results and its constraints. Assumes nothing.
-use mathlib.Core.List.{List, [], _∷_, _++_, map}
+use mathlib.Core.List.{List, _++_, map}
 use Prim.Native.Nat.{ℕ, _-_}
 use lib.IntN.{ℤ, pos}
 use lib.ListN.{length}

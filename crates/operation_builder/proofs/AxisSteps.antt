@@ -1,17 +1,16 @@
 -- A map made step by step, each dimension by itself. Assumes nothing.
-use mathlib.Core.Path.{_≡_, refl, sym, ap, ap₂, _∙_, subst}
-use mathlib.Core.Bool.{Bool, true, false, cond}
+use mathlib.Core.Path.{_≡_, refl, sym, ap, _∙_, subst}
+use mathlib.Core.Bool.{Bool, true, false}
 use mathlib.Core.List.{List, [], _∷_, _++_, map, append-nil, append-assoc}
-use Prim.Native.Nat.{ℕ, zero, suc, _+_, _-_, _*_, _/_, _%_, _<_, _≤_}
+use Prim.Native.Nat.{ℕ, zero, suc, _+_, _-_, _*_, _/_, _<_, _≤_}
 use native.Mathlib.Omega.{arith}
 use native.Mathlib.Nat.{zero-add, div-add-mod', div-le-self}
 use lib.IntN.{ℤ, pos, negsuc, negℤ, natAbs}
-use lib.ListN.{length, length-map, length-append}
-use Rattle.radix.specs.Radix.{maxSize, maxCount}
+use lib.ListN.{length, length-map}
+use Rattle.radix.specs.Radix.{maxCount}
 use Rattle.shape.specs.Shape.{maxRank}
-use Rattle.expression.specs.Expression.{d, floordiv, modulo, Expr, Range, span}
+use Rattle.expression.specs.Expression.{d, modulo, Expr, Range, span}
 use Rattle.expression.specs.Node.{maxVariables}
-use Rattle.expression.specs.declared.Node.{Node}
 use Rattle.expression.specs.declared.Node.the-variants as N
 use Rattle.expression.specs.declared.Leaf.the-variants.{Constant}
 use Rattle.expression.specs.declared.One.the-variants.{Product, Floordiv, Mod}
@@ -26,9 +25,9 @@ use Rattle.map_builder.specs.declared.Draft.{Draft}
 use Rattle.map_builder.specs.Raw.{Raw, encoded}
 use Rattle.operation_maps.specs.Axes.{Side, sideTrees, sideTests, sideMap, taken}
 use Rattle.operation_builder.specs.Family.{sideOf, Ready}
-use Rattle.map_builder.specs.Draft.{emptyDraft, addDimension, pushVariable, pushConstant, pushProduct, pushMod, pushShifted, pushAffine, endResult, endConstraint, steps}
+use Rattle.map_builder.specs.Draft.{emptyDraft, addDimension, pushVariable, pushConstant, pushProduct, pushMod, pushShifted, pushAffine, steps}
 use Rattle.operation_builder.specs.AxisDraft.{pushAxis, addAxis, addTest}
-use Rattle.map_builder.proofs.Drafted.{Drafted, drafted-encoded, noRaw, empty-drafted, withDimension, withResult, dimension-drafted, node-drafted, result-drafted, constraint-drafted, variable-value}
+use Rattle.map_builder.proofs.Drafted.{Drafted, drafted-encoded, empty-drafted, withDimension, dimension-drafted, node-drafted, result-drafted, constraint-drafted, variable-value}
 use Rattle.map_builder.proofs.Steps.{Grows, steps-drafted}
 
 -- ---- bounds

@@ -1,23 +1,21 @@
 -- One dimension kept, turned round, cut or shifted: both ways give the same pairs. Assumes nothing.
-use mathlib.Core.Path.{_≡_, refl, sym, ap, ap₂, _∙_, subst}
-use mathlib.Core.Logic.{_↔_, ⊎-elim}
-use mathlib.Core.List.{List, [], _∷_}
-use Prim.Native.Nat.{ℕ, zero, suc, _+_, _-_, _*_, _/_, _%_, _<_, _≤_}
+use mathlib.Core.Path.{_≡_, refl, sym, ap, _∙_, subst}
+use mathlib.Core.Logic.{⊎-elim}
+use mathlib.Core.List.{List}
+use Prim.Native.Nat.{ℕ, suc, _+_, _-_, _*_, _/_, _%_, _<_, _≤_}
 use native.Mathlib.Nat.{mul-div-left, mul-mod-left, div-add-mod', mul-le-mul-right, le-of-mul-le-mul-right, mul-comm, div-lt-iff-lt-mul}
 use native.Mathlib.Omega.{arith}
 use lib.IntN.{ℤ, pos, negsuc, negℤ, _+ℤ_, _*ℤ_}
 use Rattle.integer.specs.Floor.{floorDiv, floorMod}
-use Rattle.integer.proofs.Linear.{up, dn, same, add-parts, diff-parts, up-mul, dn-mul, ≤-parts}
+use Rattle.integer.proofs.Linear.{same, add-parts, diff-parts, up-mul, dn-mul, ≤-parts}
 use Rattle.radix.proofs.Lists.{le-or-lt}
-use Rattle.expression.specs.Expression.{Kind, d, Expr, span, In, eval, opOf}
+use Rattle.expression.specs.Expression.{d, span, In, eval, opOf}
 use Rattle.folding.specs.Map.{Holds}
 use Rattle.operation_maps.specs.declared.Axis.{Axis}
 use Rattle.operation_maps.specs.declared.Axis.the-variants.{Keep, Flip, Cut, Shift}
-use Rattle.map_builder.specs.Raw.{Raw}
-use Rattle.operation_maps.specs.Points.{Points, Means}
-use Rattle.operation_maps.specs.Axes.{outSide, inSide, Meets, Each, axesPairs, Sound, AllSound, axesOut, axesIn, taken}
-use Rattle.operation_maps.specs.Axes.{none, more}
-use Rattle.operation_maps.proofs.AxesNamed.{Whole, in-whole, whole-in, Step, Back, Local, sides-mean}
+use Rattle.operation_maps.specs.Points.{Means}
+use Rattle.operation_maps.specs.Axes.{outSide, inSide, Meets, Each, axesPairs, Sound, AllSound, axesOut, axesIn, taken, none, more}
+use Rattle.operation_maps.proofs.AxesNamed.{in-whole, whole-in, Local, sides-mean}
 
 -- ---- numbers
 

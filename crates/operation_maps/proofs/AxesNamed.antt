@@ -1,23 +1,18 @@
 -- The two maps of an operation that treats each dimension by itself name its pairs. Assumes nothing.
-use mathlib.Core.Path.{_≡_, refl, sym, ap, ap₂, _∙_, subst}
-use mathlib.Core.Logic.{_↔_}
+use mathlib.Core.Path.{_≡_, refl, sym, ap₂, _∙_, subst}
 use mathlib.Core.List.{List, [], _∷_, _++_, map}
-use Prim.Native.Nat.{ℕ, zero, suc, _+_, _-_, _*_, _/_, _%_, _<_, _≤_}
-use native.Mathlib.Nat.{mul-div-left, mul-mod-left, div-add-mod', mul-le-mul-right, le-of-mul-le-mul-right, mul-comm}
+use Prim.Native.Nat.{ℕ, zero, suc, _+_, _-_, _≤_}
 use native.Mathlib.Omega.{arith}
-use lib.IntN.{ℤ, pos, negsuc, negℤ, _+ℤ_, _*ℤ_, natAbs}
-use lib.ListN.{length, getD, drop}
-use Rattle.integer.specs.Floor.{floorDiv, floorMod}
-use Rattle.integer.proofs.Linear.{up, dn, same, add-parts, diff-parts, up-mul, dn-mul, ≤-parts, parts-≤}
-use Rattle.expression.specs.Expression.{Kind, d, Expr, Range, span, In, eval, opOf}
+use lib.IntN.{ℤ, pos, negsuc}
+use lib.ListN.{getD, drop}
+use Rattle.integer.proofs.Linear.{≤-parts, parts-≤}
+use Rattle.expression.specs.Expression.{Kind, d, Expr, Range, span, In, eval}
 use Rattle.expression.specs.Value.{pointOf}
 use Rattle.folding.specs.Map.{Constraint, valuesOf, Holds}
 use Rattle.operation_maps.specs.declared.Axis.{Axis}
 use Rattle.operation_maps.specs.Points as points
-use Rattle.map_builder.specs.Raw.{Raw, upTo}
 use Rattle.operation_maps.specs.Points.{Inside, Names, Points, Means}
-use Rattle.operation_maps.specs.Axes.{Side, sideTrees, sideTests, sideMap, less, outSide, inSide, Meets, Each, axesPairs, Sound, AllSound, axesOut, axesIn}
-use Rattle.operation_maps.specs.Axes.{none, more}
+use Rattle.operation_maps.specs.Axes.{Side, sideTrees, sideTests, sideMap, Each, Sound, AllSound, none, more}
 
 -- ---- whole numbers in a range
 

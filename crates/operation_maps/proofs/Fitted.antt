@@ -1,19 +1,19 @@
 -- The maps of the operations fit a record: counts within their limits, and trees that their nodes give back. Assumes nothing.
-use mathlib.Core.Path.{_≡_, refl, sym, ap, ap₂, _∙_, subst}
+use mathlib.Core.Path.{_≡_, refl, sym, ap, _∙_, subst}
 use mathlib.Core.Bool.{Bool, true, false, cond}
 use mathlib.Core.List.{List, [], _∷_, _++_, map}
 use Prim.Native.Nat.{ℕ, zero, suc, _+_, _-_, _*_, _^_, _<_, _≤_}
-use native.Mathlib.Nat.{mul-pos, mul-le-mul-right, mul-le-mul-left, mul-le-mul}
+use native.Mathlib.Nat.{mul-le-mul-right, mul-le-mul-left, mul-le-mul}
 use native.Mathlib.Omega.{arith}
-use borrow.Author.Tests.{ltb-true, ltb-false}
-use lib.IntN.{ℤ, pos, negsuc, negℤ, natAbs}
+use borrow.Author.Tests.{ltb-true}
+use lib.IntN.{pos, negℤ, natAbs}
 use lib.ListN.{length, getD, length-append, length-map}
 use Rattle.integer.specs.Exact.{limit}
 use Rattle.radix.specs.Radix.{prod}
 use Rattle.radix.proofs.Pigeonhole.{at-most}
 use Rattle.expression.specs.Expression.{d, s, floordiv, modulo, Expr, nodeCount}
-use Rattle.expression.specs.Node.{maxVariables, maxNodes, maxDivisor}
-use Rattle.indexing.specs.Map.{maxResults, maxConstraints}
+use Rattle.expression.specs.Node.{maxVariables, maxNodes}
+use Rattle.indexing.specs.Map.{maxResults}
 use Rattle.folding.specs.Map.{Constraint, constraintTrees}
 use Rattle.encoding.specs.Postfix.{postfix, Encodable}
 use Rattle.encoding.specs.Encode.{treesOf, nodesOf, AllEncodable, Fitting}
@@ -26,7 +26,7 @@ use Rattle.shape.specs.Dimensions.{place}
 use Rattle.shape.specs.Shape.{maxRank}
 use Rattle.operation_maps.specs.declared.Axis.{Axis}
 use Rattle.operation_maps.specs.declared.Axis.the-variants.{Keep, Flip, Cut, Shift}
-use Rattle.map_builder.specs.Raw.{Raw, Fits, upTo, wholeOf}
+use Rattle.map_builder.specs.Raw.{Fits, upTo, wholeOf}
 use Rattle.operation_maps.specs.Axes.{Side, sideTrees, sideTests, sideMap, outSide, inSide, axesOut, axesIn}
 use Rattle.operation_maps.specs.Reshape.{linearFrom, linear, digitTrees, splitTrees, reshapeMap, Positive}
 use Rattle.operation_maps.specs.Lists.{select, isListed, others}

@@ -2,7 +2,7 @@
 use mathlib.Core.Path.{_≡_, refl, sym, ap, ap₂, _∙_, subst}
 use mathlib.Core.Logic.{_↔_}
 use mathlib.Core.Bool.{true}
-use mathlib.Core.List.{List, [], _∷_, _++_, map}
+use mathlib.Core.List.{List, [], _∷_}
 use Prim.Native.Nat.{ℕ, zero, suc, _+_, _<_, _≤_}
 use native.Mathlib.Omega.{arith}
 use lib.IntN.{ℤ, pos}
@@ -19,7 +19,7 @@ use Rattle.indexing.specs.Map.{valueAt, rightLength, inBounds, inDomain, Domain
 use Rattle.indexing.specs.declared.IndexingMap.{IndexingMap}
 use Rattle.indexing.proofs.Theorems.{domain-is}
 use Rattle.folding.specs.Map.{Constraint, constraintTrees, valuesOf, Holds}
-use Rattle.encoding.specs.Encode.{filled, treesOf, encodeMap, Fitting}
+use Rattle.encoding.specs.Encode.{filled, treesOf, encodeMap}
 use Rattle.encoding.proofs.Lists.{map-at}
 use Rattle.encoding.proofs.Filled.{filled-length, filled-at}
 use Rattle.encoding.proofs.Encoded.{encoded-tree, encoded-dimension, encoded-range, encoded-interval}
@@ -28,8 +28,7 @@ use Rattle.fold.specs.FoldMap.{foldRules, foldedMap}
 use Rattle.encoding.proofs.Listed.{listed-is, listed-same}
 use Rattle.fold.proofs.Theorems.{same-counts, same-domain, same-values}
 use Rattle.map_builder.specs.Raw.{Raw, lows, highs, placesOf, encoded, Fits}
-use Rattle.operation_maps.specs.Points.{Inside, Names, Sends}
-use Rattle.operation_maps.specs.Points.{none, more}
+use Rattle.operation_maps.specs.Points.{Inside, Names, Sends, none, more}
 
 -- ---- values inside ranges, by place
 

@@ -6,5 +6,7 @@ pub mod ReshapeNamed
 pub mod SelectionNamed
 pub mod Fitted
 pub mod Meaning
+pub mod Numbered
+pub mod Unread
 pub mod Theorems
 pub mod Samples

@@ -1,5 +1,5 @@
 -- Both maps of every operation name its pairs, before folding. Assumes nothing.
-use mathlib.Core.Path.{_≡_, refl, sym, ap, _∙_, subst}
+use mathlib.Core.Path.{_≡_, refl, sym, ap, subst}
 use mathlib.Core.Bool.{Bool, true, false, cond, _&&_}
 use mathlib.Core.List.{List, [], _∷_, _++_}
 use Prim.Native.Nat.{ℕ, zero, suc, _+_, _-_, _^_, _<_, _≤_}
@@ -11,7 +11,7 @@ use lib.ListN.{length, getD, length-take, length-set}
 use lib.Seq.{getD-set-same}
 use Rattle.radix.specs.Radix.{maxSize, maxCount, prod, isWithin, every, Bounded}
 use Rattle.radix.proofs.Tests.{and-left, and-right, every-at, bounded-of}
-use Rattle.refusal.specs.Judge.{Rule, judge}
+use Rattle.refusal.specs.Judge.{judge}
 use Rattle.refusal.specs.declared.Refusal.the-variants.{ShapeLimits, Attribute, Repeat}
 use Rattle.refusal.specs.declared.Verdict.the-variants.{Done}
 use Rattle.refusal.proofs.Judged.{kept, rest}
@@ -27,13 +27,13 @@ use Rattle.map_builder.specs.Raw.{Raw, Fits}
 use Rattle.operation_maps.specs.Points.{Means}
 use Rattle.operation_maps.specs.Axes.{Sound, AllSound, axesOut, axesIn, axesPairs}
 use Rattle.operation_maps.specs.Reshape.{Positive}
-use Rattle.operation_maps.specs.Lists.{select, isListed, others}
+use Rattle.operation_maps.specs.Lists.{select, isListed}
 use Rattle.operation_maps.specs.Selection.{selectMap, spreadMap, selectPairs, Choice}
-use Rattle.operation_maps.specs.Operation.{Operation, maxOperands, allAlike, rankOf, keptAxes, reversedAxes, joinedAxes, slicedAxes, joinedBefore, joinedSizes, goodSizes, keptDims, operands, operandSizes, noShape, maxStride, goodCut, goodCuts, goodBroadcast, goodOperands, goodJoin, operationRules, outputToInput, inputToOutput, Pairs}
+use Rattle.operation_maps.specs.Operation.{Operation, maxOperands, allAlike, rankOf, keptAxes, reversedAxes, joinedAxes, slicedAxes, joinedBefore, joinedSizes, goodSizes, keptDims, operands, operandSizes, noShape, maxStride, goodCut, goodCuts, goodBroadcast, operationRules, outputToInput, inputToOutput, Pairs}
 use Rattle.operation_maps.proofs.AxesMean.{axes-out, axes-in}
 use Rattle.operation_maps.proofs.ReshapeNamed.{reshape-out, reshape-in}
 use Rattle.operation_maps.proofs.Fitted.{Small, AllSmall, choice-few, axes-out-fit, axes-in-fit, select-fit, spread-fit, reshape-fit}
-use Rattle.operation_maps.proofs.SelectionNamed.{select-length, positive-at, select-positive, others-choice, select-means, spread-means}
+use Rattle.operation_maps.proofs.SelectionNamed.{select-length, select-positive, others-choice, select-means, spread-means}
 
 -- ---- shapes within their limits
 

@@ -1,23 +1,21 @@
 -- The map of a reshape names the pairs of points with one row-major number. Assumes nothing.
 use mathlib.Core.Path.{_≡_, refl, sym, ap, ap₂, _∙_, subst}
-use mathlib.Core.Logic.{_↔_}
 use mathlib.Core.List.{List, [], _∷_, map}
-use Prim.Native.Nat.{ℕ, zero, suc, _+_, _-_, _*_, _/_, _%_, _<_, _≤_}
+use Prim.Native.Nat.{ℕ, suc, _+_, _-_, _*_, _/_, _%_, _<_}
 use native.Mathlib.Nat.{mul-add-div-right, mul-add-mod-self-right, mod-eq-of-lt, mod-lt, mul-comm, mul-assoc, div-add-mod', div-lt-iff-lt-mul, mul-pos}
 use native.Mathlib.Omega.{arith}
 use lib.IntN.{ℤ, pos, _+ℤ_, _*ℤ_, +ℤ-assoc, +ℤ-idr}
-use lib.ListN.{length, getD}
 use Rattle.integer.specs.Floor.{floorDiv, floorMod}
 use Rattle.radix.specs.Radix.{prod, rowMajor, digits, In, none, more}
 use Rattle.radix.proofs.Radix.{below, digits-rowMajor, rowMajor-digits, digits-in}
-use Rattle.expression.specs.Expression.{Kind, d, Expr, Range, eval, opOf}
+use Rattle.expression.specs.Expression.{Kind, d, Expr, eval, opOf}
 use Rattle.expression.specs.Value.{pointOf}
 use Rattle.folding.specs.Map.{valuesOf, Holds}
 use Rattle.operation_maps.specs.Points as points
-use Rattle.map_builder.specs.Raw.{Raw, wholeOf}
+use Rattle.map_builder.specs.Raw.{wholeOf}
 use Rattle.operation_maps.specs.Points.{Inside, Names, Points, Means}
 use Rattle.operation_maps.specs.Reshape.{linearFrom, linear, digitTrees, splitTrees, reshapeMap, reshapePairs, Positive}
-use Rattle.operation_maps.proofs.AxesNamed.{Whole, in-whole, whole-in, At, at-all}
+use Rattle.operation_maps.proofs.AxesNamed.{in-whole, whole-in, At, at-all}
 
 -- ---- points inside a shape
 

@@ -1,23 +1,22 @@
 -- Worked examples of document 000 and document 01: the answers of the operations. Assumes nothing.
-use mathlib.Core.Path.{_≡_, refl}
-use mathlib.Core.List.{List, [], _∷_, map}
+use mathlib.Core.Path.{refl}
+use mathlib.Core.List.{List, [], _∷_}
 use Prim.Native.Nat.{ℕ}
 use lib.IntN.{ℤ, pos, negℤ}
 use lib.ListN.{length}
 use Rattle.integer.proofs.Samples.{Agree}
 use Rattle.radix.specs.Radix.{isWithin}
 use Rattle.refusal.specs.Number.{Answer, done, refusal}
-use Rattle.refusal.specs.declared.Refusal.the-variants.{ShapeLimits, Attribute, Repeat}
+use Rattle.refusal.specs.declared.Refusal.the-variants.{Attribute, Repeat}
 use Rattle.shape.specs.Shape.{goodShape}
 use Rattle.shape.specs.Dimensions.{inRange, laterPlace, earlierPlace, place}
 use Rattle.shape.specs.declared.Shape.{Shape}
 use Rattle.expression.specs.Expression.{d, s, floordiv, modulo, Expr, Range, span}
 use Rattle.indexing.specs.declared.IndexingMap.{IndexingMap}
 use Rattle.folding.specs.Map.{Constraint}
-use Rattle.encoding.specs.Encode.{encodeMap}
 use Rattle.indexing.specs.Answers.{noMap}
 use Rattle.fold.proofs.Samples.{folds-maps}
-use Rattle.map_builder.specs.Raw.{Raw, encoded, upTo, wholeOf}
+use Rattle.map_builder.specs.Raw.{encoded, upTo, wholeOf}
 use Rattle.operation_maps.specs.Axes.{axesOut, axesIn}
 use Rattle.operation_maps.specs.Reshape.{linearFrom, linear, digitTrees, splitTrees, reshapeMap}
 use Rattle.operation_maps.specs.Lists.{others}
@@ -88,6 +87,10 @@ samples =
     )
     ∷ (outputToInputAnswer reduced, answer (wholeOf (10 ∷ [])) (wholeOf (256 ∷ [])) (S 0 ∷ D 0 ∷ []) [])
     ∷ (inputToOutputAnswer reduced, answer (wholeOf (256 ∷ 10 ∷ [])) [] (D 1 ∷ []) [])
+    ∷ (
+      outputToInputAnswer (Operation.reduce (shapeOf (2 ∷ 3 ∷ 4 ∷ [])) (2 ∷ 0 ∷ [])),
+      answer (wholeOf (3 ∷ [])) (wholeOf (2 ∷ 4 ∷ [])) (S 0 ∷ D 0 ∷ S 1 ∷ []) [],
+    )
     ∷ (outputToInputAnswer reducedInit, answer (wholeOf (10 ∷ [])) [] [] [])
     ∷ (inputToOutputAnswer reducedInit, answer [] (wholeOf (10 ∷ [])) (S 0 ∷ []) [])
     ∷ (outputToInputAnswer sliced, answer (wholeOf (5 ∷ 3 ∷ 25 ∷ [])) [] (plus (D 0) (pos 5) ∷ plus (Expr.mul (pos 7) (D 1)) (pos 3) ∷ Expr.mul (pos 2) (D 2) ∷ []) [])

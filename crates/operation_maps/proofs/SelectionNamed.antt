@@ -1,13 +1,12 @@
 -- The two maps of an operation that selects coordinates name its pairs. Assumes nothing.
 use mathlib.Core.Path.{_≡_, refl, sym, ap, ap₂, _∙_, subst}
-use mathlib.Core.Logic.{_↔_, ⊎-elim}
+use mathlib.Core.Logic.{⊎-elim}
 use mathlib.Core.Bool.{Bool, true, false, cond}
 use mathlib.Core.List.{List, [], _∷_, _++_, map}
-use Prim.Native.Nat.{ℕ, zero, suc, _+_, _-_, _<_, _≤_}
+use Prim.Native.Nat.{ℕ, zero, suc, _+_, _-_, _<_}
 use native.Mathlib.Nat.{le-of-suc-le-suc, eq-or-lt-of-le}
 use native.Mathlib.Omega.{arith}
-use borrow.Author.Tests.{ltb-true, ltb-false, lt-ltb}
-use lib.Dec.{ltb}
+use borrow.Author.Tests.{ltb-true, lt-ltb}
 use lib.IntN.{ℤ, pos}
 use lib.ListN.{length, getD, length-append, length-map, List·getD-append, List·getD-map}
 use lib.Seq.{ext-getD, getD-at}
@@ -15,19 +14,19 @@ use Rattle.radix.specs.Radix.{In, none, more}
 use Rattle.radix.proofs.Radix.{in-length, in-at}
 use Rattle.shape.specs.Dimensions.{place}
 use Rattle.shape.proofs.Repeats.{place-is, place-at}
-use Rattle.expression.specs.Expression.{Kind, d, s, Expr, Range, eval}
+use Rattle.expression.specs.Expression.{d, s, Expr, eval}
 use Rattle.expression.specs.Value.{pointOf}
 use Rattle.folding.specs.Map.{valuesOf, Holds}
 use Rattle.encoding.proofs.Lists.{map-at}
 use Rattle.encoding.specs.Trees.{listed}
 use Rattle.encoding.proofs.Listed.{listed-length, listed-at, listed-same, listed-is, listed-map}
 use Rattle.operation_maps.specs.Points as points
-use Rattle.map_builder.specs.Raw.{Raw, wholeOf}
+use Rattle.map_builder.specs.Raw.{wholeOf}
 use Rattle.operation_maps.specs.Points.{Inside, Names, Points, Means}
 use Rattle.operation_maps.specs.Reshape.{Positive}
 use Rattle.operation_maps.specs.Lists.{select, isListed, others}
 use Rattle.operation_maps.specs.Selection.{selectMap, variableFor, spreadMap, selectPairs, Choice}
-use Rattle.operation_maps.proofs.ReshapeNamed.{Natural, inside-natural, natural-inside}
+use Rattle.operation_maps.proofs.ReshapeNamed.{inside-natural, natural-inside}
 
 -- ---- entries selected
 
@@ -269,3 +268,10 @@ module _ (l ns : List ℕ) (g : Positive ns) (c : Choice l (length ns)) where
             holds = tt;
             results = larger-value x (map pos (select rest (p .to))) (select l (p .to)) (select rest (p .to)) e refl ∙ ap (map pos) (larger-back (p .to) i) ∙ sym (p .to-is);
           }
+
+-- ---- the order of a list does not matter to what it leaves
+
+pub others-same : (l k : List ℕ) → ((j : ℕ) → isListed l j ≡ isListed k j) → (n : ℕ) → others l n ≡ others k n
+unfolding others
+others-same l k h zero = refl
+others-same l k h (suc n) = ap₂ (λ (b : Bool) (o : List ℕ). cond b o (o ++ (n ∷ []))) (h n) (others-same l k h n)

@@ -5,3 +5,5 @@ pub mod Axes
 pub mod Reshape
 pub mod Selection
 pub mod Operation
+pub mod Numbers
+pub mod Trimmed

@@ -1,17 +1,17 @@
 -- Operations that treat each dimension by itself: what is judged, and what the maps ask for. Assumes nothing.
-use mathlib.Core.Path.{_≡_, refl, sym, ap, _∙_}
+use mathlib.Core.Path.{_≡_, ap}
 use mathlib.Core.Bool.{Bool, true, false, cond, _&&_}
 use mathlib.Core.List.{List, []}
-use Prim.Native.Nat.{ℕ, _<_, _≤_}
+use Prim.Native.Nat.{ℕ, _≤_}
 use native.Mathlib.Omega.{arith}
 use borrow.Author.Tests.{ltb-true, leb-true}
 use lib.Dec.{ltb, leb, eqb}
 use lib.ListN.{length, getD}
-use Rattle.radix.specs.Radix.{maxSize, every}
+use Rattle.radix.specs.Radix.{maxSize}
 use Rattle.radix.proofs.Tests.{and-left, and-right, every-at}
 use Rattle.refusal.specs.Judge.{judge}
 use Rattle.refusal.specs.declared.Refusal.the-variants.{ShapeLimits, Attribute}
-use Rattle.refusal.specs.declared.Verdict.the-variants.{Done, Refused}
+use Rattle.refusal.specs.declared.Verdict.the-variants.{Done}
 use Rattle.refusal.proofs.Judged.{kept, rest}
 use Rattle.shape.specs.Shape.{sizesOf, goodShape}
 use Rattle.shape.specs.declared.Shape.{Shape}
@@ -19,14 +19,13 @@ use Rattle.operation_maps.specs.declared.Way.{Way}
 use Rattle.operation_maps.specs.declared.Way.the-variants.{OutputToInput, InputToOutput}
 use Rattle.operation_maps.specs.declared.Axis.{Axis}
 use Rattle.operation_maps.specs.declared.Axis.the-variants.{Keep, Flip, Shift}
-use Rattle.operation_builder.specs.declared.Change.{Change}
 use Rattle.operation_builder.specs.declared.Change.the-variants.{Kept, Reversed, Joined, Sliced}
 use Rattle.map_builder.specs.Raw.{encoded}
 use Rattle.operation_maps.specs.Lists.{isListed}
 use Rattle.operation_maps.specs.Axes.{axesOut, axesIn}
 use Rattle.operation_builder.specs.Family.{axesRaw, Ready, isOut}
 use Rattle.operation_builder.specs.AxisDraft.{AllReady}
-use Rattle.operation_maps.specs.Operation.{Operation, rankOf, goodCut, goodCuts, operationRules, rawOf}
+use Rattle.operation_maps.specs.Operation.{Operation, goodCut, goodCuts, operationRules, rawOf}
 use Rattle.operation_maps.proofs.Meaning.{Limited, limited-of}
 use Rattle.map_builder.proofs.Steps.{sized-at}
 

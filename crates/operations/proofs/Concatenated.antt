@@ -1,13 +1,12 @@
 -- Concatenation: what is judged, and what the map asks for. Assumes nothing.
-use mathlib.Core.Path.{_≡_, refl, sym, ap, ap₂, _∙_, subst}
-use mathlib.Core.Bool.{Bool, true, false, _&&_, _||_}
+use mathlib.Core.Path.{_≡_, sym, ap, ap₂, _∙_}
+use mathlib.Core.Bool.{Bool, true, false, _&&_}
 use mathlib.Core.List.{List, [], map}
 use Prim.Native.Nat.{ℕ, zero, suc, _+_, _*_, _<_, _≤_, min}
-use native.Mathlib.Nat.{min-eq-left, min-eq-right}
 use native.Mathlib.Numerals.{add-one}
 use native.Mathlib.Omega.{arith}
 use borrow.Author.Tests.{ltb-true, leb-true}
-use lib.Dec.{ltb, leb, eqb}
+use lib.Dec.{ltb, leb}
 use lib.ListN.{length, getD, take, set, length-take, length-set, length-map}
 use lib.Seq.{getD-take, take-set-lt}
 use Rattle.radix.specs.Radix.{maxSize, maxCount, prod, isWithin, every, Upto}
@@ -18,7 +17,7 @@ use Rattle.refusal.specs.declared.Verdict.the-variants.{Done}
 use Rattle.refusal.proofs.Judged.{kept, rest}
 use Rattle.shape.specs.Shape.{maxRank, sizesOf, goodShape}
 use Rattle.shape.specs.declared.Shape.{Shape}
-use Rattle.shape.proofs.Limits.{Limits, limits}
+use Rattle.shape.proofs.Limits.{limits}
 use Rattle.operation_maps.specs.declared.Way.{Way}
 use Rattle.operation_maps.specs.declared.Way.the-variants.{OutputToInput, InputToOutput}
 use Rattle.operations.specs.declared.Operands.{Operands}
@@ -28,7 +27,7 @@ use Rattle.operation_maps.specs.Axes.{axesOut, axesIn}
 use Rattle.operation_builder.specs.Family.{axesRaw, isOut}
 use Rattle.operation_builder.specs.AxisDraft.{AllReady}
 use Rattle.operation_maps.specs.Operation.{Operation, maxOperands, noShape, operands, operandSizes, joinedBefore, joinedSizes, alike, allAlike, goodSizes, operationRules, rawOf}
-use Rattle.operations.specs.Join.{GoodOperands, Some, SumRoom, Joins}
+use Rattle.operations.specs.Join.{GoodOperands, Some}
 use Rattle.operation_maps.proofs.Meaning.{limited-of, joined-up, joined-small}
 use Rattle.operations.proofs.Changed.{joined-ready}
 

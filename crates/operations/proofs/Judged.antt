@@ -1,15 +1,15 @@
 -- The rules of the operations as they are judged, and the answer of a judged operation. Assumes nothing.
-use mathlib.Core.Path.{_≡_, refl, sym, ap, ap₂, _∙_, subst}
+use mathlib.Core.Path.{_≡_, refl, sym, ap, ap₂, _∙_}
 use mathlib.Core.Logic.{⊎-elim}
 use mathlib.Core.Bool.{Bool, true, false, cond, not, _&&_}
-use mathlib.Core.List.{List, [], _∷_, _++_}
-use Prim.Native.Nat.{ℕ, _+_, _<_, _≤_}
+use mathlib.Core.List.{List, [], _∷_}
+use Prim.Native.Nat.{ℕ, _+_, _<_}
 use native.Mathlib.Nat.{eq-or-lt-of-le, le-of-suc-le-suc}
 use native.Mathlib.Omega.{arith}
 use borrow.Author.Tests.{eq-eqb, ne-eqb, ltb-true}
 use lib.Dec.{eqb, ltb}
-use lib.ListN.{length, getD, take}
-use Rattle.refusal.specs.Number.{Answer, answered, done, refusal, verdictAnswer, numberOf, placesOf}
+use lib.ListN.{length, getD}
+use Rattle.refusal.specs.Number.{Answer, answered, done, refusal, verdictAnswer, numberOf}
 use Rattle.refusal.specs.Judge.{Rule, unless, judge}
 use Rattle.refusal.specs.declared.Refusal.{Refusal}
 use Rattle.refusal.specs.declared.Refusal.the-variants.{ShapeLimits, Attribute, Repeat}
@@ -17,7 +17,7 @@ use Rattle.refusal.specs.declared.Verdict.{Verdict}
 use Rattle.refusal.specs.declared.Verdict.the-variants.{Done, Refused}
 use Rattle.refusal.proofs.Judged.{kept, rest, after-done, after-refused}
 use Rattle.refusal.proofs.Theorems.{number-positive}
-use Rattle.radix.specs.Radix.{maxSize, prod, every, Bounded}
+use Rattle.radix.specs.Radix.{prod, every}
 use Rattle.radix.proofs.Tests.{and-true, and-false, and-left, and-right, every-all, every-not, every-at}
 use Rattle.shape.specs.Shape.{sizesOf, goodShape, maxRank}
 use Rattle.shape.specs.Dimensions.{inRange, free, firstRepeat, earlierPlace, laterPlace}
@@ -26,22 +26,14 @@ use Rattle.indexing.specs.declared.IndexingMap.{IndexingMap}
 use Rattle.indexing.specs.Answers.{noMap, mapAnswer, answeredMap}
 use Rattle.fold.specs.FoldMap.{foldRules, foldedMap, foldAnswer}
 use Rattle.indexing.specs.declared.AnsweredMap.{AnsweredMap}
-use Rattle.shape.proofs.Limits.{Limits, limits}
+use Rattle.shape.proofs.Limits.{limits}
 use Rattle.operation_maps.specs.declared.Way.{Way}
 use Rattle.operation_maps.specs.declared.Way.the-variants.{OutputToInput, InputToOutput}
 use Rattle.map_builder.specs.Raw.{encoded}
-use Rattle.operation_maps.specs.Lists.{select, others}
-use Rattle.operation_maps.specs.Selection.{Choice}
+use Rattle.operation_maps.specs.Lists.{select}
 use Rattle.operation_builder.specs.Family.{selection, isOut, Chosen}
 use Rattle.operation_maps.specs.Operation.{foldedAnswer, Operation, rankOf, goodBroadcast, keptDims, listRules, operationRules, outputToInput, inputToOutput, outputToInputAnswer, inputToOutputAnswer, rawOf, operationAnswer}
-use Rattle.operation_builder.specs.ReshapeDraft.{Reshapable}
-use Rattle.operation_builder.specs.SelectionDraft.{Choosable, KeptAs}
-use Rattle.operation_builder.specs.declared.Kept.{Kept}
-use Rattle.encoding.proofs.Filled.{filled-length}
-use Rattle.operation_builder.proofs.SelectionSteps.{front-is}
-use Rattle.operation_maps.proofs.SelectionNamed.{select-length, select-at, others-choice}
-use Rattle.operation_maps.proofs.Meaning.{limited-of, choice-of, no-choice}
-use Rattle.operation_maps.proofs.Fitted.{choice-few}
+use Rattle.operation_maps.proofs.Meaning.{choice-of}
 
 -- ---- the answer: folding's own, or the refusal of a rule
 

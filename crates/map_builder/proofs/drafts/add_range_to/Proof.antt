@@ -1,5 +1,5 @@
 -- `map_builder::drafts::add_range_to` meets its contract. Assumes nothing.
-use mathlib.Core.Path.{_≡_, refl, sym, ap, ap₂, _∙_}
+use mathlib.Core.Path.{ap, _∙_}
 use mir.Facts.{toZ-ofZ}
 use lib.IntN.{pos}
 use Rattle.map_builder.specs.Draft.{addRange}

@@ -1,14 +1,13 @@
 -- `map_builder::loops::add_selected` meets its contract. Assumes nothing.
-use mathlib.Core.Path.{_≡_, refl, sym, ap, ap₂, _∙_}
+use mathlib.Core.Path.{_≡_, ap}
 use native.Mathlib.Omega.{arith}
-use Prim.Native.Nat.{ℕ, _+_, _-_, _<_, _≤_}
+use Prim.Native.Nat.{ℕ, _-_, _≤_}
 use lib.ListN.{length, getD}
 use denote.Ref.{now}
 use Rattle.map_builder.specs.declared.Draft.{Draft}
 use Rattle.map_builder.specs.Raw.{upTo}
 use Rattle.map_builder.specs.Draft.{steps, addSelected}
-use Rattle.map_builder.proofs.Steps.{sized-at}
-use Rattle.map_builder.proofs.Steps.{steps-none, steps-next, steps-end, steps-grow, bounds-grow}
+use Rattle.map_builder.proofs.Steps.{sized-at, steps-none, steps-next, steps-end, steps-grow, bounds-grow}
 use borrow.Author.Needs.{needs}
 use Rattle.map_builder.proofs.loops.add_selected.Statement.{statement}
 use Rattle.map_builder.proofs.loops.add_selected.Tie as tie

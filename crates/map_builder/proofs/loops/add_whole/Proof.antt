@@ -1,8 +1,8 @@
 -- `map_builder::loops::add_whole` meets its contract. Assumes nothing.
-use mathlib.Core.Path.{_≡_, refl, sym, ap, ap₂, _∙_}
+use mathlib.Core.Path.{_≡_, ap}
 use native.Mathlib.Omega.{arith}
-use Prim.Native.Nat.{ℕ, _+_, _-_, _*_, _<_, _≤_}
-use lib.ListN.{length, getD, drop}
+use Prim.Native.Nat.{ℕ, _-_, _≤_}
+use lib.ListN.{length, getD}
 use denote.Ref.{now}
 use Rattle.map_builder.specs.declared.Draft.{Draft}
 use Rattle.map_builder.specs.Raw.{upTo}

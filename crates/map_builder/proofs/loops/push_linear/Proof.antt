@@ -1,11 +1,11 @@
 -- `map_builder::loops::push_linear` meets its contract. Assumes nothing.
-use mathlib.Core.Path.{_≡_, refl, sym, ap, _∙_, subst}
-use Prim.Native.Nat.{ℕ, _+_, _-_, _*_, _≤_}
+use mathlib.Core.Path.{_≡_, refl, sym, _∙_, subst}
+use Prim.Native.Nat.{_+_, _-_, _*_, _≤_}
 use native.Mathlib.Omega.{arith}
 use lib.ListN.{length, drop}
 use denote.Ref.{now}
 use Rattle.radix.specs.Radix.{prod}
-use Rattle.map_builder.specs.Draft.{pushTerm, pushTerms}
+use Rattle.map_builder.specs.Draft.{pushTerms}
 use Rattle.map_builder.specs.declared.Draft.{Draft}
 use Rattle.map_builder.proofs.Steps.{Grown}
 use Rattle.map_builder.proofs.Linear.{terms-next, terms-end, term-grown, linear-none, linear-some, rest-product, part-bounded, part-product}

@@ -1,11 +1,10 @@
 -- `map_builder::loops::push_term` meets its contract. Assumes nothing.
-use mathlib.Core.Path.{_≡_, refl, sym, ap, ap₂, _∙_}
+use mathlib.Core.Path.{_∙_}
 use native.Mathlib.Omega.{arith}
 use mir.Facts.{toZ-ofZ}
-use borrow.Author.Needs.{sfits-of}
-use Rattle.map_builder.proofs.Steps.{Grown, pushed-grown, grown-then}
+use borrow.Author.Needs.{sfits-of, needs}
+use Rattle.map_builder.proofs.Steps.{pushed-grown, grown-then}
 use Rattle.map_builder.proofs.Linear.{term-first, term-next}
-use borrow.Author.Needs.{needs}
 use Rattle.map_builder.proofs.loops.push_term.Statement.{statement}
 use Rattle.map_builder.proofs.loops.push_term.Tie as tie
 use Rattle.map_builder.proofs.loops.push_term.Reads as reads

@@ -1,5 +1,4 @@
 -- `map_builder::signs::natural` meets its contract. Assumes nothing.
-use mathlib.Core.Path.{_≡_, refl, sym, ap, ap₂, _∙_}
 use mir.Facts.{toZ-ofZ}
 use borrow.Author.Needs.{needs}
 use Rattle.map_builder.proofs.signs.natural.Statement.{statement}

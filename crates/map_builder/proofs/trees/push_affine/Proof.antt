@@ -1,9 +1,9 @@
 -- `map_builder::trees::push_affine` meets its contract. Assumes nothing.
-use mathlib.Core.Path.{_≡_, refl, sym, ap, ap₂, _∙_}
+use mathlib.Core.Path.{ap, ap₂, _∙_}
 use native.Mathlib.Omega.{arith}
 use mir.Facts.{toZ-ofZ}
 use Rattle.map_builder.specs.Draft.{pushConstant, pushSum, pushProduct}
-use Rattle.map_builder.proofs.Steps.{Grown, pushed-grown, grown-then}
+use Rattle.map_builder.proofs.Steps.{pushed-grown, grown-then}
 use borrow.Author.Needs.{needs}
 use Rattle.map_builder.proofs.trees.push_affine.Statement.{statement}
 use Rattle.map_builder.proofs.trees.push_affine.Tie as tie

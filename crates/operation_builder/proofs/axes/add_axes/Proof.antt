@@ -1,13 +1,12 @@
 -- `operation_builder::axes::add_axes` meets its contract. Assumes nothing.
-use mathlib.Core.Path.{_≡_, refl, sym, ap, ap₂, _∙_}
+use mathlib.Core.Path.{_≡_, sym, ap, _∙_, subst}
 use native.Mathlib.Omega.{arith}
-use Prim.Native.Nat.{ℕ, _+_, _-_, _<_, _≤_}
-use lib.ListN.{length, getD}
+use Prim.Native.Nat.{_-_, _≤_}
+use lib.ListN.{length}
 use denote.Ref.{now}
 use Rattle.map_builder.specs.declared.Draft.{Draft}
 use Rattle.operation_maps.specs.declared.Axis.{Axis}
 use Rattle.operation_builder.specs.Family.{axisAt, Ready}
-use mathlib.Core.Path.{subst}
 use Rattle.map_builder.specs.Draft.{steps}
 use Rattle.operation_builder.specs.AxisDraft.{addAxis, addAxes}
 use Rattle.map_builder.proofs.Steps.{steps-none, steps-next, steps-end, steps-grow}

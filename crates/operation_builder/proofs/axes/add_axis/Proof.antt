@@ -1,7 +1,6 @@
 -- `operation_builder::axes::add_axis` meets its contract. Assumes nothing.
-use mathlib.Core.Path.{_≡_, refl, sym, ap, ap₂, _∙_}
+use mathlib.Core.Path.{ap, ap₂, _∙_}
 use native.Mathlib.Omega.{arith}
-use lib.IntN.{ℤ, pos, negsuc, negℤ}
 use Rattle.map_builder.specs.Draft.{addDimension, endResult}
 use Rattle.map_builder.specs.declared.Draft.{Draft}
 use Rattle.operation_builder.specs.AxisDraft.{pushAxis}

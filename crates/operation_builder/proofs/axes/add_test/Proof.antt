@@ -1,12 +1,11 @@
 -- `operation_builder::axes::add_test` meets its contract. Assumes nothing.
-use borrow.Author.Needs.{sfits-of}
-use mathlib.Core.Path.{_≡_, refl, sym, ap, ap₂, _∙_}
+use borrow.Author.Needs.{sfits-of, needs}
+use mathlib.Core.Path.{ap, _∙_}
 use native.Mathlib.Omega.{arith}
 use mir.Facts.{toZ-ofZ}
-use lib.IntN.{ℤ, pos, negsuc, negℤ}
+use lib.IntN.{pos}
 use Rattle.map_builder.specs.Draft.{pushMod, pushShifted, endConstraint}
 use Rattle.map_builder.specs.declared.Draft.{Draft}
-use borrow.Author.Needs.{needs}
 use Rattle.operation_builder.proofs.axes.add_test.Statement.{statement}
 use Rattle.operation_builder.proofs.axes.add_test.Tie as tie
 use Rattle.operation_builder.proofs.axes.add_test.Reads as reads

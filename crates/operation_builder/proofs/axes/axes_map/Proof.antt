@@ -1,8 +1,8 @@
 -- `operation_builder::axes::axes_map` meets its contract. Assumes nothing.
-use mathlib.Core.Path.{_≡_, refl, sym, ap, ap₂, _∙_}
+use mathlib.Core.Path.{refl, ap, _∙_}
 use native.Mathlib.Omega.{arith}
 use denote.Ref.{now}
-use lib.ListN.{length, getD}
+use lib.ListN.{length}
 use Rattle.map_builder.specs.declared.Draft.{Draft}
 use Rattle.map_builder.specs.Draft.{emptyDraft, steps}
 use Rattle.operation_builder.specs.Family.{axisAt}

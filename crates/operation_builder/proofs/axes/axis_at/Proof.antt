@@ -1,8 +1,6 @@
 -- `operation_builder::axes::axis_at` meets its contract. Assumes nothing.
-use mathlib.Core.Path.{_≡_, refl, sym, ap, ap₂, _∙_}
 use borrow.Author.Tests.{lt-ltb, le-ltb, eq-eqb, ne-eqb}
-use denote.Ref.{now}
-use lib.ListN.{length, getD}
+use lib.ListN.{length}
 use Rattle.shape.specs.Dimensions.{place}
 use borrow.Author.Needs.{needs}
 use Rattle.operation_builder.proofs.axes.axis_at.Statement.{statement}

@@ -1,5 +1,5 @@
 -- `operation_builder::axes::high_of` meets its contract. Assumes nothing.
-use mathlib.Core.Path.{_≡_, refl, sym, ap, ap₂, _∙_}
+use mathlib.Core.Path.{ap}
 use native.Mathlib.Omega.{arith}
 use lib.IntN.{pos}
 use Rattle.operation_builder.proofs.AxisSteps.{whole-high, turned-high, last-below, last-few, last-is}

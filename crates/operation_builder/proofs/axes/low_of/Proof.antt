@@ -1,5 +1,4 @@
 -- `operation_builder::axes::low_of` meets its contract. Assumes nothing.
-use mathlib.Core.Path.{_≡_, refl, sym, ap, ap₂, _∙_}
 use Rattle.operation_builder.proofs.AxisSteps.{whole-low, turned-low}
 use borrow.Author.Needs.{needs}
 use Rattle.operation_builder.proofs.axes.low_of.Statement.{statement}

@@ -1,12 +1,11 @@
 -- `operation_builder::axes::push_axis` meets its contract. Assumes nothing.
-use borrow.Author.Needs.{sfits-of}
-use mathlib.Core.Path.{_≡_, refl, sym, ap, ap₂, _∙_}
+use borrow.Author.Needs.{sfits-of, needs}
+use mathlib.Core.Path.{ap, ap₂, _∙_}
 use native.Mathlib.Omega.{arith}
 use mir.Facts.{toZ-ofZ}
-use lib.IntN.{ℤ, pos, negsuc, negℤ}
+use lib.IntN.{negsuc}
 use Rattle.map_builder.specs.Draft.{pushFloordiv, pushShifted, pushAffine}
 use Rattle.map_builder.specs.declared.Draft.{Draft}
-use borrow.Author.Needs.{needs}
 use Rattle.operation_builder.proofs.axes.push_axis.Statement.{statement}
 use Rattle.operation_builder.proofs.axes.push_axis.Tie as tie
 use Rattle.operation_builder.proofs.axes.push_axis.Reads as reads

@@ -1,6 +1,5 @@
 -- `operation_builder::axes::shape_axes` meets its contract. Assumes nothing.
-use mathlib.Core.Path.{_≡_, refl, sym, ap, ap₂, _∙_}
-use denote.Ref.{now}
+use mathlib.Core.Path.{sym}
 use Rattle.shape.proofs.Limits.{Limits, limits}
 use borrow.Author.Needs.{needs}
 use Rattle.operation_builder.proofs.axes.shape_axes.Statement.{statement}

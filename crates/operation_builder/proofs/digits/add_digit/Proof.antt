@@ -1,5 +1,4 @@
 -- `operation_builder::digits::add_digit` meets its contract. Assumes nothing.
-use mathlib.Core.Path.{_≡_, refl, sym, ap, _∙_}
 use native.Mathlib.Omega.{arith}
 use denote.Ref.{now}
 use Rattle.expression.specs.Node.{maxVariables}

@@ -1,11 +1,10 @@
 -- `operation_builder::digits::reshape_map` meets its contract. Assumes nothing.
 use borrow.Author.Needs.{needs}
-use mathlib.Core.Path.{_≡_, refl, sym, ap, _∙_}
+use mathlib.Core.Path.{ap, _∙_}
 use native.Mathlib.Omega.{arith}
 use denote.Ref.{now}
-use lib.ListN.{length}
+use lib.ListN.{length, getD}
 use Prim.Native.Nat.{ℕ}
-use lib.ListN.{getD}
 use Rattle.map_builder.specs.Raw.{upTo}
 use Rattle.map_builder.specs.Draft.{emptyDraft, steps, addSize}
 use Rattle.map_builder.proofs.Steps.{bounds-leave}

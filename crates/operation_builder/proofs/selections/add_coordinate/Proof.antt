@@ -1,15 +1,9 @@
 -- `operation_builder::selections::add_coordinate` meets its contract. Assumes nothing.
-use mathlib.Core.Path.{_≡_, refl, sym, ap, ap₂, _∙_}
-use mathlib.Core.Bool.{Bool, true, false, cond}
+use mathlib.Core.Path.{ap}
 use native.Mathlib.Omega.{arith}
-use Prim.Native.Nat.{ℕ, _+_, _-_, _<_, _≤_}
-use lib.ListN.{length, getD}
+use Prim.Native.Nat.{_-_}
 use denote.Ref.{now}
-use lib.IntN.{pos}
 use Rattle.map_builder.specs.declared.Draft.{Draft}
-use Rattle.map_builder.specs.Draft.{addRange, pushNode, endResult}
-use Rattle.expression.specs.Node.{maxVariables}
-use Rattle.shape.specs.Dimensions.{place}
 use Rattle.map_builder.proofs.Steps.{sized-at}
 use Rattle.operation_builder.proofs.SelectionSteps.{short, coordinate-listed, coordinate-other}
 use borrow.Author.Needs.{needs}

@@ -1,8 +1,8 @@
 -- `operation_builder::selections::add_coordinates` meets its contract. Assumes nothing.
-use mathlib.Core.Path.{_≡_, refl, sym, ap, ap₂, _∙_}
+use mathlib.Core.Path.{_≡_, ap, _∙_}
 use native.Mathlib.Omega.{arith}
-use Prim.Native.Nat.{ℕ, _+_, _-_, _<_, _≤_}
-use lib.ListN.{length, getD}
+use Prim.Native.Nat.{_-_, _≤_}
+use lib.ListN.{length}
 use denote.Ref.{now}
 use Rattle.map_builder.specs.declared.Draft.{Draft}
 use Rattle.map_builder.specs.Draft.{steps}

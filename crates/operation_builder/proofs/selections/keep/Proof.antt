@@ -1,5 +1,4 @@
 -- `operation_builder::selections::keep` meets its contract. Assumes nothing.
-use mathlib.Core.Path.{_≡_, refl, sym, ap, ap₂, _∙_}
 use denote.Ref.{now}
 use Rattle.operation_builder.proofs.SelectionSteps.{keep-listed, keep-other}
 use borrow.Author.Needs.{needs}

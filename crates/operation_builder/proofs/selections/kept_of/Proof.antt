@@ -1,10 +1,9 @@
 -- `operation_builder::selections::kept_of` meets its contract. Assumes nothing.
-use mathlib.Core.Path.{_≡_, refl, sym, ap, ap₂, _∙_}
-use mathlib.Core.Path.{subst}
+use mathlib.Core.Path.{_≡_, subst}
 use native.Mathlib.Omega.{arith}
-use Prim.Native.Nat.{ℕ, _+_, _-_, _<_, _≤_}
+use Prim.Native.Nat.{ℕ, _-_, _≤_}
 use denote.Ref.{now}
-use lib.ListN.{length, getD}
+use lib.ListN.{length}
 use Rattle.operation_builder.specs.SelectionDraft.{KeptAs}
 use Rattle.operation_builder.proofs.SelectionSteps.{none-kept, few-kept, kept-next}
 use borrow.Author.Needs.{needs}

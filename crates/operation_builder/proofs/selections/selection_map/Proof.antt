@@ -1,6 +1,6 @@
 -- `operation_builder::selections::selection_map` meets its contract. Assumes nothing.
-use mathlib.Core.Path.{_≡_, refl, sym, ap, ap₂, _∙_}
-use mathlib.Core.Bool.{Bool, true, false}
+use mathlib.Core.Path.{sym, ap, _∙_}
+use mathlib.Core.Bool.{Bool}
 use denote.Ref.{now}
 use Rattle.map_builder.specs.Raw.{encoded}
 use Rattle.operation_builder.specs.Family.{selection}

@@ -1,5 +1,5 @@
 -- `operation_builder::selections::shape_selection` meets its contract. Assumes nothing.
-use mathlib.Core.Path.{_≡_, refl, sym, ap, ap₂, _∙_}
+use mathlib.Core.Path.{sym}
 use denote.Ref.{now}
 use Rattle.shape.proofs.Limits.{Limits, limits}
 use Rattle.operation_builder.proofs.Ready.{chosen-ready}

@@ -1,5 +1,5 @@
 -- `operations::changing::slice` meets its contract. Assumes nothing.
-use mathlib.Core.Path.{_≡_, refl, sym, ap, ap₂, _∙_}
+use mathlib.Core.Path.{ap, _∙_}
 use denote.Ref.{now}
 use Rattle.operation_maps.specs.Operation.{Operation}
 use Rattle.refusal.specs.Number.{verdictAnswer}

@@ -1,12 +1,12 @@
 -- `operations::joining::all_alike` meets its contract. Assumes nothing.
-use mathlib.Core.Path.{_≡_, refl, sym, ap, ap₂, _∙_}
-use borrow.Author.Tests.{not-true, not-false, eq-eqb, ne-eqb, lt-ltb, le-ltb, le-leb, lt-leb}
-use mathlib.Core.Bool.{Bool, true, false, _&&_, _||_}
+use mathlib.Core.Path.{_≡_, sym, ap, _∙_}
+use borrow.Author.Tests.{not-true, not-false}
+use mathlib.Core.Bool.{true}
 use native.Mathlib.Omega.{arith}
-use Prim.Native.Nat.{ℕ, _+_, _-_, _<_, _≤_}
-use lib.ListN.{length, getD}
-use Rattle.shape.specs.Shape.{sizesOf, goodShape}
-use Rattle.operation_maps.specs.Operation.{noShape, alike, operandSizes, maxOperands}
+use Prim.Native.Nat.{ℕ, _-_, _<_, _≤_}
+use lib.ListN.{length}
+use Rattle.shape.specs.Shape.{goodShape}
+use Rattle.operation_maps.specs.Operation.{alike, operandSizes, maxOperands}
 use Rattle.operations.proofs.Judged.{holds-next}
 use Rattle.operations.proofs.Concatenated.{mapped-long, good-at, alike-is, all-not, all-are}
 use borrow.Author.Needs.{needs}

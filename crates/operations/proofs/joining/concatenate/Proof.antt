@@ -1,5 +1,5 @@
 -- `operations::joining::concatenate` meets its contract. Assumes nothing.
-use mathlib.Core.Path.{_≡_, refl, sym, ap, ap₂, _∙_}
+use mathlib.Core.Path.{ap, _∙_}
 use Rattle.refusal.specs.Number.{verdictAnswer}
 use Rattle.operation_maps.specs.Operation.{Operation}
 use Rattle.operations.proofs.Judged.{way-ready, way-done, way-refused}

@@ -1,12 +1,11 @@
 -- `operations::joining::good_join` meets its contract. Assumes nothing.
-use mathlib.Core.Path.{_≡_, refl, sym, ap, ap₂, _∙_}
+use mathlib.Core.Path.{_≡_}
 use lib.Dec.{leb}
-use borrow.Author.Tests.{not-true, not-false, eq-eqb, ne-eqb, lt-ltb, le-ltb, le-leb, lt-leb}
-use mathlib.Core.Bool.{Bool, true, false, _&&_, _||_}
+use borrow.Author.Tests.{lt-ltb, le-ltb, le-leb, lt-leb}
+use mathlib.Core.Bool.{true}
 use native.Mathlib.Omega.{arith}
-use lib.ListN.{length, getD}
-use Rattle.shape.specs.Shape.{sizesOf, goodShape}
-use Rattle.operation_maps.specs.Operation.{noShape, operandSizes, maxOperands}
+use lib.ListN.{length}
+use Rattle.operation_maps.specs.Operation.{operandSizes, maxOperands}
 use Rattle.operations.proofs.Concatenated.{mapped-long, first-rank}
 use borrow.Author.Needs.{needs}
 use Rattle.operations.proofs.joining.good_join.Statement.{statement}

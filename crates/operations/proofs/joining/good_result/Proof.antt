@@ -1,12 +1,12 @@
 -- `operations::joining::good_result` meets its contract. Assumes nothing.
-use mathlib.Core.Path.{_≡_, refl, sym, ap, ap₂, _∙_}
+use mathlib.Core.Path.{_≡_, ap, _∙_}
 use native.Mathlib.Omega.{arith}
-use lib.ListN.{length, getD}
+use lib.ListN.{length}
 use Rattle.shape.specs.Shape.{sizesOf, goodShape}
 use Rattle.shape.proofs.Limits.{Limits, limits}
-use Rattle.operation_maps.specs.Operation.{noShape, maxOperands}
+use Rattle.operation_maps.specs.Operation.{maxOperands}
 use Rattle.operations.proofs.Concatenated.{mapped-long, good-at, result-is}
-use Prim.Native.Nat.{ℕ, _<_}
+use Prim.Native.Nat.{_<_}
 use Rattle.shape.specs.declared.Shape.{Shape}
 use borrow.Author.Needs.{needs}
 use Rattle.operations.proofs.joining.good_result.Statement.{statement}

@@ -1,8 +1,8 @@
 -- `operations::joining::joined_before` meets its contract. Assumes nothing.
-use mathlib.Core.Path.{_≡_, refl, sym, ap, ap₂, _∙_}
+use mathlib.Core.Path.{_≡_, refl, ap, _∙_}
 use native.Mathlib.Omega.{arith}
-use Prim.Native.Nat.{ℕ, _+_, _-_, _<_, _≤_}
-use Rattle.shape.specs.Shape.{sizesOf, goodShape}
+use Prim.Native.Nat.{ℕ, _-_, _<_, _≤_}
+use Rattle.shape.specs.Shape.{goodShape}
 use Rattle.operation_maps.specs.Operation.{joinedBefore, maxOperands}
 use Rattle.operations.proofs.Concatenated.{mapped-long, good-at, sum-small, sum-next, sum-room}
 use Rattle.operations.specs.declared.Operands.{Operands}

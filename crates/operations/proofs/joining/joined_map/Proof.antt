@@ -1,7 +1,7 @@
 -- `operations::joining::joined_map` meets its contract. Assumes nothing.
-use mathlib.Core.Path.{_≡_, refl, sym, ap, ap₂, _∙_}
+use mathlib.Core.Path.{_≡_, _∙_}
 use native.Mathlib.Omega.{arith}
-use Prim.Native.Nat.{ℕ, _+_, _-_, _<_, _≤_}
+use Prim.Native.Nat.{_-_}
 use Rattle.operations.proofs.Concatenated.{mapped-long, Judged, concatenate-judged, joined-good, joined-made}
 use Rattle.operation_maps.specs.Operation.{maxOperands}
 use lib.ListN.{length}

@@ -1,11 +1,10 @@
 -- `operations::joining::judge_concatenate` meets its contract. Assumes nothing.
-use mathlib.Core.Path.{_≡_, refl, sym, ap, ap₂, _∙_}
-use borrow.Author.Tests.{not-true, not-false, eq-eqb, ne-eqb, lt-ltb, le-ltb, le-leb, lt-leb}
-use mathlib.Core.Bool.{Bool, true, false, _&&_, _||_}
+use mathlib.Core.Path.{_≡_, sym, ap, _∙_}
+use borrow.Author.Tests.{not-true, not-false}
+use mathlib.Core.Bool.{true}
 use native.Mathlib.Omega.{arith}
 use Rattle.operations.proofs.Concatenated.{mapped-long, good-operands, join-some, sizes-is, allGood, joinTest}
-use Rattle.shape.specs.Shape.{sizesOf, goodShape}
-use Rattle.operation_maps.specs.Operation.{maxOperands, noShape, operandSizes}
+use Rattle.operation_maps.specs.Operation.{maxOperands}
 use lib.ListN.{length}
 use Rattle.operations.specs.Join.{GoodOperands}
 use borrow.Author.Needs.{needs}

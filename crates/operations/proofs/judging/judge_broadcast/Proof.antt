@@ -1,7 +1,7 @@
 -- `operations::judging::judge_broadcast` meets its contract. Assumes nothing.
-use mathlib.Core.Path.{_≡_, refl, sym, ap, ap₂, _∙_}
-use borrow.Author.Tests.{not-true, not-false, eq-eqb, ne-eqb}
-use mathlib.Core.Bool.{Bool, true, false, _&&_}
+use mathlib.Core.Path.{_≡_, sym, ap, _∙_}
+use borrow.Author.Tests.{not-true, not-false}
+use mathlib.Core.Bool.{Bool, true, _&&_}
 use denote.Ref.{now}
 use Rattle.shape.specs.Shape.{sizesOf, goodShape}
 use Rattle.shape.proofs.Limits.{Limits, limits}

@@ -1,5 +1,5 @@
 -- `operations::reshaping::reshape` meets its contract. Assumes nothing.
-use mathlib.Core.Path.{_≡_, refl, sym, ap, ap₂, _∙_}
+use mathlib.Core.Path.{ap}
 use Rattle.operation_maps.specs.Operation.{Operation}
 use Rattle.refusal.specs.Number.{verdictAnswer}
 use Rattle.operations.proofs.Judged.{way-ready, way-done, way-refused, reshape-good}

@@ -1,5 +1,5 @@
 -- `operations::reshaping::reshape_either` meets its contract. Assumes nothing.
-use mathlib.Core.Path.{_≡_, refl, sym, ap, ap₂, _∙_}
+use mathlib.Core.Path.{sym, ap, _∙_}
 use Rattle.map_builder.specs.Raw.{encoded}
 use Rattle.operation_maps.specs.Operation.{Operation, rawOf}
 use Rattle.operation_maps.specs.declared.Way.{Way}
