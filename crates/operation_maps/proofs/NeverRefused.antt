@@ -1,6 +1,5 @@
--- An operation whose own rules are kept is never refused by folding, either way: its rules alone decide its answer. Assumes nothing.
-use mathlib.Core.Path.{_≡_, refl, sym, ap, _∙_}
-use mathlib.Core.Logic.{_↔_}
+-- An operation whose own rules are kept is never refused by folding, either way: its rules alone decide. Assumes nothing.
+use mathlib.Core.Path.{_≡_, refl, sym, _∙_}
 use mathlib.Core.Bool.{Bool, true, false, _&&_, cond}
 use mathlib.Core.List.{List, [], _∷_, _++_}
 use Prim.Native.Nat.{ℕ, _<_, _≤_}
@@ -8,21 +7,17 @@ use native.Mathlib.Omega.{arith}
 use borrow.Author.Tests.{leb-true, ltb-true}
 use lib.Dec.{leb, ltb, eqb}
 use lib.ListN.{length, getD, length-take}
-use Rattle.refusal.specs.Number.{Answer, answered, verdictAnswer}
 use Rattle.refusal.specs.Judge.{judge}
 use Rattle.refusal.specs.declared.Refusal.the-variants.{ShapeLimits, Attribute, Repeat}
 use Rattle.refusal.specs.declared.Verdict.{Verdict}
 use Rattle.refusal.specs.declared.Verdict.the-variants.{Done, Refused}
 use Rattle.refusal.proofs.Judged.{kept, rest, after-done, after-refused}
-use Rattle.refusal.proofs.Theorems.{number-positive}
 use Rattle.radix.specs.Radix.{maxSize, every, Bounded}
 use Rattle.radix.proofs.Tests.{and-left, and-right, every-at}
 use Rattle.shape.specs.Shape.{maxRank, sizesOf, goodShape}
 use Rattle.shape.specs.Dimensions.{inRange, free, earlierPlace, laterPlace}
 use Rattle.shape.specs.declared.Shape.{Shape}
-use Rattle.indexing.specs.declared.IndexingMap.{IndexingMap}
-use Rattle.indexing.specs.Answers.{noMap}
-use Rattle.fold.specs.FoldMap.{foldRules, foldedMap}
+use Rattle.fold.specs.FoldMap.{foldRules}
 use Rattle.operation_maps.specs.declared.Axis.{Axis}
 use Rattle.operation_maps.specs.declared.Axis.the-variants.{Keep, Flip, Cut, Shift}
 use Rattle.operation_maps.specs.declared.Way.{Way}
@@ -30,7 +25,7 @@ use Rattle.operation_maps.specs.declared.Way.the-variants.{OutputToInput
 use Rattle.map_builder.specs.Raw.{encoded}
 use Rattle.operation_maps.specs.Lists.{select, isListed}
 use Rattle.operation_maps.specs.Selection.{selectMap, spreadMap, Choice}
-use Rattle.operation_maps.specs.Operation.{Operation, maxOperands, rankOf, keptDims, operands, operandSizes, noShape, joinedBefore, joinedSizes, allAlike, goodSizes, goodCut, goodCuts, goodBroadcast, listRules, operationRules, outputToInput, inputToOutput, outputToInputAnswer, inputToOutputAnswer, rawOf, operationAnswer}
+use Rattle.operation_maps.specs.Operation.{Operation, maxOperands, rankOf, keptDims, operands, operandSizes, noShape, joinedBefore, joinedSizes, allAlike, goodSizes, goodCut, goodCuts, goodBroadcast, listRules, operationRules, outputToInput, inputToOutput, rawOf}
 use Rattle.operation_maps.proofs.SelectionNamed.{select-at, select-length, others-choice}
 use Rattle.operation_maps.proofs.Fitted.{choice-few}
 use Rattle.operation_maps.proofs.Meaning.{Limited, limited-of, limited-positive, choice-of, no-choice, joined-up, joined-small, right}
@@ -161,46 +156,17 @@ keep-both (Operation.reshape x y) e =
       reshape-keeps (sizesOf x) (sizesOf y) (gx .few) (gy .few) px py (sized (sizesOf x) gx) (gx .counted) (gy .counted),
     )
 
--- ---- the theorems
+-- ---- the rules of folding
 
--- An operation whose rules are kept is never refused by folding: neither of its maps breaks a rule of number 2, 7 or 8.
-pub never-refused : (op : Operation) → judge (operationRules op) ≡ Done
-    → (judge (foldRules (encoded (outputToInput op))) ≡ Done) × (judge (foldRules (encoded (inputToOutput op))) ≡ Done)
-never-refused op e =
-    let r = right op e in
-    let k = keep-both op e in
-    (not-refused (outputToInput op) (r .out-fits) (k .0), not-refused (inputToOutput op) (r .in-fits) (k .1))
+-- Neither map of an operation whose rules are kept breaks a rule of folding: 2, 7 or 8.
+pub folds-kept : (way : Way) (op : Operation) → judge (operationRules op) ≡ Done → judge (foldRules (encoded (rawOf way op))) ≡ Done
+folds-kept OutputToInput op e = not-refused (outputToInput op) (right op e .out-fits) (keep-both op e .0)
+folds-kept InputToOutput op e = not-refused (inputToOutput op) (right op e .in-fits) (keep-both op e .1)
 
--- its own rules and those of folding are judged as its own rules are
-rules-alone : (way : Way) (op : Operation) → judge (operationRules op ++ foldRules (encoded (rawOf way op))) ≡ judge (operationRules op)
+-- so its own rules and those of folding are judged as its own rules are
+pub rules-alone : (way : Way) (op : Operation) → judge (operationRules op ++ foldRules (encoded (rawOf way op))) ≡ judge (operationRules op)
 rules-alone way op = go (judge (operationRules op)) refl
   where
-    folds : (w : Way) → judge (operationRules op) ≡ Done → judge (foldRules (encoded (rawOf w op))) ≡ Done
-    folds OutputToInput e = never-refused op e .0
-    folds InputToOutput e = never-refused op e .1
-
     go : (v : Verdict) → judge (operationRules op) ≡ v → judge (operationRules op ++ foldRules (encoded (rawOf way op))) ≡ judge (operationRules op)
-    go Done e = after-done (operationRules op) (foldRules (encoded (rawOf way op))) e ∙ folds way e ∙ sym e
+    go Done e = after-done (operationRules op) (foldRules (encoded (rawOf way op))) e ∙ folds-kept way op e ∙ sym e
     go (Refused r) e = after-refused (operationRules op) (foldRules (encoded (rawOf way op))) r e ∙ sym e
-
--- The answer is the folded map where the operation's own rules are kept, and the refusal of the first that is broken where one is.
-pub answer-by-rules : (way : Way) (op : Operation) → operationAnswer way op ≡ answered (noMap ∷ []) (judge (operationRules op)) (foldedMap (encoded (rawOf way op)) ∷ [])
-unfolding outputToInputAnswer inputToOutputAnswer
-answer-by-rules OutputToInput op = ap (λ (v : Verdict). answered (noMap ∷ []) v (foldedMap (encoded (outputToInput op)) ∷ [])) (rules-alone OutputToInput op)
-answer-by-rules InputToOutput op = ap (λ (v : Verdict). answered (noMap ∷ []) v (foldedMap (encoded (inputToOutput op)) ∷ [])) (rules-alone InputToOutput op)
-
--- The number of the answer is that of the operation's own rules.
-pub answer-number : (way : Way) (op : Operation) → operationAnswer way op .number ≡ verdictAnswer (judge (operationRules op)) .number
-answer-number way op = ap (λ (a : Answer IndexingMap). a .number) (answer-by-rules way op) ∙ same (judge (operationRules op))
-  where
-    same : (v : Verdict) → answered (noMap ∷ []) v (foldedMap (encoded (rawOf way op)) ∷ []) .number ≡ verdictAnswer v .number
-    same Done = refl
-    same (Refused r) = refl
-
--- It is 0 exactly where the operation's own rules are kept.
-pub done-exactly : (way : Way) (op : Operation) → (operationAnswer way op .number ≡ 0) ↔ (judge (operationRules op) ≡ Done)
-done-exactly way op = (λ e. to (judge (operationRules op)) (sym (answer-number way op) ∙ e), λ e. answer-number way op ∙ ap (λ (v : Verdict). verdictAnswer v .number) e)
-  where
-    to : (v : Verdict) → verdictAnswer v .number ≡ 0 → v ≡ Done
-    to Done e = refl
-    to (Refused r) e = absurd (omega (arith, number-positive r))
