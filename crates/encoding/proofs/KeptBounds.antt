@@ -1,15 +1,12 @@
 -- Bounds by places, kept below the counts one after another, and records made of the same parts. Assumes nothing.
 use mathlib.Core.Path.{_≡_, sym, ap, ap₂, _∙_, subst}
-use mathlib.Core.Logic.{⊎-elim}
 use mathlib.Core.List.{List}
 use Prim.Native.Nat.{ℕ, _+_, _-_, _<_, _≤_}
-use native.Mathlib.Nat.{le-of-suc-le-suc, eq-or-lt-of-le}
-use native.Mathlib.Numerals.{add-one}
 use native.Mathlib.Omega.{arith}
 use native.Mathlib.Decide.{decLt}
 use lib.IntN.{ℤ, pos}
-use lib.ListN.{length, getD, set}
-use lib.Seq.{ext-getD, getD-set-same, getD-set-other}
+use lib.ListN.{length, getD}
+use lib.Seq.{ext-getD}
 use Rattle.expression.specs.Node.{maxVariables, maxPlaces}
 use Rattle.encoding.specs.Encode.{boundsOf, recordOf, Bounded}
 use Rattle.encoding.proofs.Bounds.{bounds-length, bound-dimension, bound-range, bound-no-dimension, bound-no-range, bound-no-runtime}
@@ -37,16 +34,6 @@ module _ {l : List ℤ} {dims ranges : ℕ} (b : Bounded l dims ranges) (place :
           let e : maxVariables + (maxVariables + (place - maxVariables - maxVariables)) ≡ place = omega arith in
           let m : place - maxVariables - maxVariables < maxVariables = omega arith in
           subst (λ (n : ℕ). pos 0 ≡ getD (boundsOf dims ranges l) n (pos 0)) e (sym (bound-no-runtime dims ranges l (place - maxVariables - maxVariables) m))
-
--- one bound more
-pub bounds-next : (dims ranges : ℕ) (l : List ℤ) (out : List ℤ) (z : ℤ) (i : ℕ) → length out ≡ maxPlaces → i < maxPlaces
-    → ((k : ℕ) → k < i → getD out k (pos 0) ≡ getD (boundsOf dims ranges l) k (pos 0)) → z ≡ getD (boundsOf dims ranges l) i (pos 0)
-    → (k : ℕ) → k < i + 1 → getD (set out i z) k (pos 0) ≡ getD (boundsOf dims ranges l) k (pos 0)
-bounds-next dims ranges l out z i long h f e k n =
-    ⊎-elim
-    (λ (q : k ≡ i). ap (λ (j : ℕ). getD (set out i z) j (pos 0)) q ∙ getD-set-same out i z (pos 0) (omega (arith, long)) ∙ e ∙ ap (λ (j : ℕ). getD (boundsOf dims ranges l) j (pos 0)) (sym q))
-    (λ q. getD-set-other out i k z (pos 0) (λ (j : k ≡ i). absurd (omega arith)) ∙ f k q)
-    (eq-or-lt-of-le (le-of-suc-le-suc (rw (add-one i) at n)))
 
 pub bounds-all : (dims ranges : ℕ) (l : List ℤ) (out : List ℤ) → length out ≡ maxPlaces → ((k : ℕ) → k < maxPlaces → getD out k (pos 0) ≡ getD (boundsOf dims ranges l) k (pos 0))
     → out ≡ boundsOf dims ranges l

@@ -14,5 +14,6 @@ pub mod Unique
 pub mod Listed
 pub mod Trees
 pub mod AtPoint
+pub mod SameTrees
 pub mod Theorems
 pub mod Samples

@@ -2,11 +2,12 @@
 use mathlib.Core.Path.{_≡_, refl, sym, ap, ap₂, _∙_}
 use mathlib.Core.Logic.{⊎-elim}
 use mathlib.Core.List.{List, [], _∷_, _++_, map}
-use Prim.Native.Nat.{ℕ, zero, suc, _<_}
+use Prim.Native.Nat.{ℕ, zero, suc, _+_, _<_}
 use native.Mathlib.Nat.{le-of-suc-le-suc, eq-or-lt-of-le}
+use native.Mathlib.Numerals.{add-one}
 use native.Mathlib.Omega.{arith}
-use lib.ListN.{length, getD, length-append, List·getD-append}
-use lib.Seq.{ext-getD, getD-at}
+use lib.ListN.{length, getD, set, length-append, List·getD-append}
+use lib.Seq.{ext-getD, getD-at, getD-set-same, getD-set-other}
 use Rattle.expression.specs.Expression.{Expr}
 use Rattle.folding.proofs.Map.{AllTrees}
 use Rattle.encoding.proofs.Lists.{map-append}
@@ -38,6 +39,15 @@ module _ {A : Type 0} where
   listed-is f n xs z e h =
       let l = listed-length f n in
       ext-getD z (listed f n) xs (l ∙ e) (λ k w. let v : k < n = omega arith in listed-at f n k z v ∙ h k v)
+
+-- an array that holds f 0, f 1, .. below i, and one entry more
+pub entry-next : {A : Type 0} (f : ℕ → A) (out : List A) (x z : A) (i n : ℕ) → length out ≡ n → i < n → ((k : ℕ) → k < i → getD out k z ≡ f k) → x ≡ f i
+    → (k : ℕ) → k < i + 1 → getD (set out i x) k z ≡ f k
+entry-next f out x z i n long h g e k l =
+    ⊎-elim
+    (λ (q : k ≡ i). ap (λ (j : ℕ). getD (set out i x) j z) q ∙ getD-set-same out i x z (omega (arith, long)) ∙ e ∙ ap f (sym q))
+    (λ q. getD-set-other out i k x z (λ (j : k ≡ i). absurd (omega arith)) ∙ g k q)
+    (eq-or-lt-of-le (le-of-suc-le-suc (rw (add-one i) at l)))
 
 pub listed-map : {A B : Type 0} (g : A → B) (f : ℕ → A) (n : ℕ) → map g (listed f n) ≡ listed (λ (k : ℕ). g (f k)) n
 unfolding listed

@@ -14,7 +14,7 @@ use Rattle.encoding.specs.Written.{IsPlace, IsOp}
 pub place-in : (start n : ℕ) → n < maxVariables → placeFrom start n ≡ start + n
 place-in start n h = ap (λ (b : Bool). cond b (start + n) noPlace) (lt-ltb n maxVariables h)
 
-place-out : (start n : ℕ) → maxVariables ≤ n → placeFrom start n ≡ noPlace
+pub place-out : (start n : ℕ) → maxVariables ≤ n → placeFrom start n ≡ noPlace
 place-out start n h = ap (λ (b : Bool). cond b (start + n) noPlace) (le-ltb n maxVariables h)
 
 pub of-dim : (kind n : ℕ) (r : ℤ) → n < maxVariables → kind ≡ 0 → r ≡ pos n → IsPlace kind n r

@@ -9,7 +9,7 @@ ghost use mathlib.Core.List.{_++_};
 const COUNTED: usize = expression::MAX_NODES + 1;
 
 // The first place at which there is no variable.
-const NO_PLACE: i64 = 16;
+pub const NO_PLACE: i64 = 16;
 
 // Writes a kind, if there is room.
 fn put_kind(kinds: &mut [u8], at: usize, kind: u8)

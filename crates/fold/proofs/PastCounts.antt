@@ -2,62 +2,34 @@
 use mathlib.Core.Path.{_≡_, refl, sym, ap, ap₂, _∙_}
 use mathlib.Core.Bool.{Bool, true, false}
 use mathlib.Core.List.{List, [], _∷_}
-use Prim.Native.Nat.{ℕ, _+_, _<_}
-use native.Mathlib.Omega.{arith}
+use Prim.Native.Nat.{ℕ}
 use lib.Dec.{leb}
 use lib.ListN.{length}
 use Rattle.refusal.specs.Number.{answered}
 use Rattle.refusal.specs.Judge.{judge}
 use Rattle.refusal.specs.declared.Verdict.{Verdict}
-use Rattle.expression.specs.Expression.{Kind, Expr, Range, span}
-use Rattle.expression.specs.Node.{maxVariables, maxNodes}
+use Rattle.expression.specs.Expression.{Expr}
+use Rattle.expression.specs.Node.{maxNodes}
 use Rattle.expression.proofs.Within.{Proper}
-use Rattle.indexing.specs.Map.{goodParts, goodCounts, SameAt, Alike}
+use Rattle.indexing.specs.Map.{goodParts, goodCounts, Alike}
 use Rattle.indexing.specs.Ready.{Formed}
 use Rattle.indexing.specs.declared.IndexingMap.{IndexingMap}
-use Rattle.indexing.proofs.Formed.{counts, held-at}
-use Rattle.indexing.proofs.Unread.{tree-same, parts-same, counts-same, ranges-same}
+use Rattle.indexing.proofs.Unread.{parts-same, counts-same, ranges-same}
 use Rattle.folding.specs.Map.{Constraint, constraintTrees, foldResults, foldConstraints, smallTrees}
 use Rattle.folding.proofs.Map.{AllTrees, all-trees}
 use Rattle.encoding.specs.Encode.{treesOf, nodesOf, encodeMap}
 use Rattle.indexing.specs.Answers.{noMap}
-use Rattle.encoding.specs.Trees.{listed, exprOf, exprAt, constraintAt, resultTrees, mapConstraints, mapBounds}
+use Rattle.encoding.specs.Trees.{resultTrees, mapConstraints, mapBounds}
 use Rattle.fold.specs.FoldMap.{foldedResults, foldedConstraints, foldedMap, smallFold, fewNodes, foldRules, foldAnswer}
-use Rattle.encoding.proofs.Listed.{listed-same, all-append}
+use Rattle.encoding.proofs.Listed.{all-append}
 use Rattle.fold.proofs.BoundsRead.{results-same, constraints-same, small-trees-same}
-use Rattle.encoding.proofs.SameBounds.{record-same, variable-same}
-use Rattle.encoding.proofs.Trees.{Read, runs-all, results-read, constraints-read}
+use Rattle.encoding.proofs.SameBounds.{record-same}
+use Rattle.encoding.proofs.SameTrees.{dimension-same, range-same, bounds-same, result-trees-same, map-constraints-same}
+use Rattle.encoding.proofs.Trees.{Read, results-read, constraints-read}
 
 module _ (m n : IndexingMap) (a : Alike m n) where
   -- ---- where 2 and 7 do not apply
   module _ (f : Formed m) where
-    dimension-same : (k : ℕ) → k < m .dims → SameAt (m .lower) (m .upper) (n .lower) (n .upper) k
-    dimension-same k h = let c = counts m f in a .dimension k (omega (arith, c .dims))
-
-    range-same : (k : ℕ) → k < m .ranges → SameAt (m .lower) (m .upper) (n .lower) (n .upper) (maxVariables + k)
-    range-same k h = let c = counts m f in a .range k (omega (arith, c .ranges))
-
-    bounds-same : (k : Kind) (i : ℕ) → Proper (m .dims) (m .ranges) (Expr.var k i) → mapBounds m k i ≡ mapBounds n k i
-    bounds-same = variable-same (m .dims) (m .ranges) (m .lower) (m .upper) (n .lower) (n .upper) dimension-same range-same
-
-    -- ---- the trees
-
-    expr-same : (i : ℕ) → i < m .results + m .constraints → exprAt m i ≡ exprAt n i
-    expr-same i h = let k = rw (sym (runs-all m f)) at h in ap exprOf (tree-same m n a i k (held-at m f i k))
-
-    result-trees-same : resultTrees m ≡ resultTrees n
-    result-trees-same = listed-same (exprAt m) (exprAt n) (m .results) (λ k l. expr-same k (omega arith)) ∙ ap (listed (exprAt n)) (a .results)
-
-    constraint-same : (k : ℕ) → k < m .constraints → constraintAt m k ≡ constraintAt n k
-    constraint-same k l =
-        let c = counts m f in
-        let e = a .ends k (omega (arith, c .constraints)) in
-        ap₂ (λ (x : Expr) (r : Range). record { expr = x; interval = r })
-        (expr-same (m .results + k) (omega arith) ∙ ap (λ (i : ℕ). exprAt n (i + k)) (a .results)) (ap₂ span (e .0) (e .1))
-
-    map-constraints-same : mapConstraints m ≡ mapConstraints n
-    map-constraints-same = listed-same (constraintAt m) (constraintAt n) (m .constraints) constraint-same ∙ ap (listed (constraintAt n)) (a .constraints)
-
     -- ---- what is folded
 
     proper : (es : List Expr) → AllTrees (Read m f) es → AllTrees (Proper (m .dims) (m .ranges)) es
@@ -71,27 +43,27 @@ module _ (m n : IndexingMap) (a : Alike m n) where
 
     folded-results-same : foldedResults m ≡ foldedResults n
     folded-results-same =
-        results-same (m .dims) (m .ranges) (mapBounds m) (mapBounds n) bounds-same (resultTrees m) results-proper
-        ∙ ap (foldResults (mapBounds n)) result-trees-same
+        results-same (m .dims) (m .ranges) (mapBounds m) (mapBounds n) (bounds-same m n a f) (resultTrees m) results-proper
+        ∙ ap (foldResults (mapBounds n)) (result-trees-same m n a f)
 
     folded-constraints-same : foldedConstraints m ≡ foldedConstraints n
     folded-constraints-same =
-        constraints-same (m .dims) (m .ranges) (mapBounds m) (mapBounds n) bounds-same (mapConstraints m) constraints-proper
-        ∙ ap (foldConstraints (mapBounds n)) map-constraints-same
+        constraints-same (m .dims) (m .ranges) (mapBounds m) (mapBounds n) (bounds-same m n a f) (mapConstraints m) constraints-proper
+        ∙ ap (foldConstraints (mapBounds n)) (map-constraints-same m n a f)
 
     map-same : foldedMap m ≡ foldedMap n
     unfolding foldedMap
     map-same =
-        record-same (m .dims) (m .ranges) (m .lower) (m .upper) (n .lower) (n .upper) dimension-same range-same (foldedResults m) (foldedConstraints m)
+        record-same (m .dims) (m .ranges) (m .lower) (m .upper) (n .lower) (n .upper) (dimension-same m n a f) (range-same m n a f) (foldedResults m) (foldedConstraints m)
         ∙ ap₂ (λ (rs : List Expr) (cs : List Constraint). encodeMap (m .dims) (m .ranges) (n .lower) (n .upper) rs cs) folded-results-same folded-constraints-same
         ∙ ap₂ (λ (x y : ℕ). encodeMap x y (n .lower) (n .upper) (foldedResults n) (foldedConstraints n)) (a .dims) (a .ranges)
 
     small-same : smallFold m ≡ smallFold n
     unfolding smallFold
     small-same =
-        small-trees-same (m .dims) (m .ranges) (mapBounds m) (mapBounds n) bounds-same (treesOf (resultTrees m) (mapConstraints m))
+        small-trees-same (m .dims) (m .ranges) (mapBounds m) (mapBounds n) (bounds-same m n a f) (treesOf (resultTrees m) (mapConstraints m))
         (all-append (Proper (m .dims) (m .ranges)) (resultTrees m) (constraintTrees (mapConstraints m)) results-proper constraints-proper)
-        ∙ ap₂ (λ (rs : List Expr) (cs : List Constraint). smallTrees (mapBounds n) (treesOf rs cs)) result-trees-same map-constraints-same
+        ∙ ap₂ (λ (rs : List Expr) (cs : List Constraint). smallTrees (mapBounds n) (treesOf rs cs)) (result-trees-same m n a f) (map-constraints-same m n a f)
 
     few-same : fewNodes m ≡ fewNodes n
     unfolding fewNodes

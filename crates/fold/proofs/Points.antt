@@ -24,6 +24,8 @@ use Rattle.indexing.specs.Map.{maxResults, valueAt, rightLength, areIn, inBound
 use Rattle.indexing.specs.Ready.{Formed, Accepted}
 use Rattle.indexing.specs.Answers.{valuesOf, pointRules, resultValues}
 use Rattle.indexing.specs.declared.IndexingMap.{IndexingMap}
+use Rattle.indexing.proofs.Answered.{pointVerdict, point-judged}
+use Rattle.indexing.proofs.Comparisons.{same-test}
 use Rattle.indexing.proofs.Formed.{in-interval}
 use Rattle.indexing.proofs.Theorems.{domain-is}
 use Rattle.indexing.proofs.Unread.{front-same}
@@ -56,11 +58,6 @@ point-inside m ds ss e =
 domain-inside : (m : IndexingMap) (ds ss : List ℤ) → Domain m ds ss → inBounds m ds ss ≡ true
 unfolding inDomain
 domain-inside m ds ss h = and-left (inBounds m ds ss) _ (and-right (rightLength m ds ss) _ (domain-is m ds ss .1 h))
-
-same-test : (a b : Bool) → (a ≡ true → b ≡ true) → (b ≡ true → a ≡ true) → a ≡ b
-same-test true b f g = sym (f refl)
-same-test false true f g = g refl
-same-test false false f g = refl
 
 -- ---- a map whose fold is accepted
 
@@ -196,30 +193,22 @@ module _ (m : IndexingMap) (w : Folds m) where
         ap (λ (n : ℕ). pos n ∷ valuesOf (foldedMap m) ds ss n) results-are
         ∙ ap (λ (l : List ℤ). pos (m .results) ∷ l) (front-same (valueAt (foldedMap m) ds ss) (valueAt m ds ss) (m .results) maxResults (value-same e))
 
-    -- the verdict by the two rules that an accepted map leaves
-    abbrev verdict : Bool → Bool → Verdict
-    verdict long inside = unless long WrongLength (unless inside Outside Done)
-
-    judged : (n : IndexingMap) → Accepted n
-        → judge (pointRules n ds ss) ≡ verdict (rightLength n ds ss) (inDomain n ds ss)
-    judged n a = rw (a .formed .parts, a .formed .counts, a .ranges)
-
     pub answer-same : resultValues (foldedMap m) ds ss ≡ resultValues m ds ss
     unfolding resultValues
     answer-same =
-        ap (λ (v : Verdict). answered zeros v (values (foldedMap m))) (judged (foldedMap m) (folded-accepted m w))
+        ap (λ (v : Verdict). answered zeros v (values (foldedMap m))) (point-judged (foldedMap m) (folded-accepted m w) ds ss)
         ∙ ap (λ (v : Verdict). answered zeros v (values (foldedMap m))) verdicts
         ∙ go (rightLength m ds ss) (inDomain m ds ss) refl
-        ∙ ap (λ (v : Verdict). answered zeros v (values m)) (sym (judged m (w .accepted)))
+        ∙ ap (λ (v : Verdict). answered zeros v (values m)) (sym (point-judged m (w .accepted) ds ss))
       where
         zeros : List ℤ
         zeros = replicate (1 + maxResults) (pos 0)
 
-        verdicts : verdict (rightLength (foldedMap m) ds ss) (inDomain (foldedMap m) ds ss)
-            ≡ verdict (rightLength m ds ss) (inDomain m ds ss)
-        verdicts = ap₂ verdict (ap₂ (λ (x y : ℕ). eqb (length ds) x && eqb (length ss) y) dims-are ranges-are) in-domain-same
+        verdicts : pointVerdict (rightLength (foldedMap m) ds ss) (inDomain (foldedMap m) ds ss)
+            ≡ pointVerdict (rightLength m ds ss) (inDomain m ds ss)
+        verdicts = ap₂ pointVerdict (ap₂ (λ (x y : ℕ). eqb (length ds) x && eqb (length ss) y) dims-are ranges-are) in-domain-same
 
-        go : (long inside : Bool) → inDomain m ds ss ≡ inside → answered zeros (verdict long inside) (values (foldedMap m)) ≡ answered zeros (verdict long inside) (values m)
+        go : (long inside : Bool) → inDomain m ds ss ≡ inside → answered zeros (pointVerdict long inside) (values (foldedMap m)) ≡ answered zeros (pointVerdict long inside) (values m)
         go true true e = ap (λ (l : List ℤ). answered zeros Done l) (values-are (domain-inside m ds ss (domain-is m ds ss .0 e)))
         go true false e = refl
         go false inside e = refl

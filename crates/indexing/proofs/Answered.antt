@@ -1,17 +1,29 @@
--- Calls that make a map by rules: the answer where they are kept, and where one is broken. Assumes nothing.
+-- Answers by rules: of a map at a point, and of calls that make a map. Assumes nothing.
 use mathlib.Core.Path.{_≡_, refl, sym, ap, _∙_}
 use mathlib.Core.Logic.{_↔_}
+use mathlib.Core.Bool.{Bool}
 use mathlib.Core.List.{List, [], _∷_, _++_}
 use native.Mathlib.Omega.{arith}
+use lib.IntN.{ℤ}
 use Rattle.refusal.specs.Number.{answered, done, refusal}
-use Rattle.refusal.specs.Judge.{Rule, judge}
+use Rattle.refusal.specs.Judge.{Rule, unless, judge}
 use Rattle.refusal.specs.declared.Refusal.{Refusal}
+use Rattle.refusal.specs.declared.Refusal.the-variants.{Outside, WrongLength}
 use Rattle.refusal.specs.declared.Verdict.{Verdict}
 use Rattle.refusal.specs.declared.Verdict.the-variants.{Done, Refused}
 use Rattle.refusal.proofs.Judged.{after-done, after-refused}
 use Rattle.refusal.proofs.Theorems.{number-positive}
-use Rattle.indexing.specs.Answers.{noMap, mapAnswer, answeredMap, mapBy}
+use Rattle.indexing.specs.Map.{rightLength, inDomain}
+use Rattle.indexing.specs.Ready.{Accepted}
+use Rattle.indexing.specs.Answers.{pointRules, noMap, mapAnswer, answeredMap, mapBy}
 use Rattle.indexing.specs.declared.IndexingMap.{IndexingMap}
+
+-- the verdict by the two rules of evaluating that an accepted map leaves
+abbrev pub pointVerdict : Bool → Bool → Verdict
+pointVerdict long inside = unless long WrongLength (unless inside Outside Done)
+
+pub point-judged : (m : IndexingMap) → Accepted m → (ds ss : List ℤ) → judge (pointRules m ds ss) ≡ pointVerdict (rightLength m ds ss) (inDomain m ds ss)
+point-judged m a ds ss = rw (a .formed .parts, a .formed .counts, a .ranges)
 
 module _ (m : IndexingMap) where
   -- the answer on paper of a verdict and a map

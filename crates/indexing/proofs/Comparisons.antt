@@ -35,3 +35,9 @@ le-test a b = (λ e. record { le = subst T (sym e) tt }, λ h. yes-of (leZ a b) 
 
 pub le-fact : (a b : ℤ) → leZ a b ≡ true → Le a b
 le-fact a b e = order-Le (le-test a b .0 e)
+
+-- two tests that pass together are the same
+pub same-test : (a b : Bool) → (a ≡ true → b ≡ true) → (b ≡ true → a ≡ true) → a ≡ b
+same-test true b f g = sym (f refl)
+same-test false true f g = g refl
+same-test false false f g = refl

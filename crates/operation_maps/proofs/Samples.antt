@@ -23,6 +23,11 @@ use Rattle.operation_maps.specs.Lists.{others}
 use Rattle.operation_maps.specs.Selection.{selectMap, spreadMap}
 use Rattle.operation_maps.specs.Operation.{Operation, joinedBefore, outputToInputAnswer, inputToOutputAnswer}
 
+-- the line `unfolding makes-maps` opens all that the map of an operation computes with
+unfoldable pub makes-maps : Unit {0}
+unfolding folds-maps outputToInputAnswer inputToOutputAnswer encoded axesOut axesIn linearFrom linear digitTrees splitTrees reshapeMap others selectMap spreadMap joinedBefore
+makes-maps = tt
+
 abbrev shapeOf : List ℕ → Shape
 shapeOf ns = record { rank = length ns; sizes = ns }
 
@@ -108,5 +113,5 @@ samples =
     ∷ []
 
 pub operation-samples : Agree samples
-unfolding folds-maps outputToInputAnswer inputToOutputAnswer encoded axesOut axesIn linearFrom linear digitTrees splitTrees reshapeMap others selectMap spreadMap joinedBefore goodShape isWithin inRange laterPlace earlierPlace place
+unfolding makes-maps goodShape isWithin inRange laterPlace earlierPlace place
 operation-samples = refl

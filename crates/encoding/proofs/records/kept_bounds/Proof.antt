@@ -8,7 +8,8 @@ use lib.ListN.{length, getD, length-set}
 use mir.Facts.{toZ-ofZ}
 use Rattle.expression.specs.Node.{maxPlaces}
 use Rattle.encoding.specs.Encode.{boundsOf}
-use Rattle.encoding.proofs.KeptBounds.{bounds-next, bounds-all}
+use Rattle.encoding.proofs.KeptBounds.{bounds-all}
+use Rattle.encoding.proofs.Listed.{entry-next}
 use Rattle.encoding.proofs.records.kept_bounds.Statement.{statement}
 use Rattle.encoding.proofs.records.kept_bounds.Tie as tie
 use Rattle.encoding.proofs.records.kept_bounds.Reads as reads
@@ -48,7 +49,7 @@ loop-again c =
     rw (toZ-ofZ (sfits-of (c .bound-at .ok))) (
       omega (arith, t .loop-test .taken),
       length-set (l .loop .out) (l .loop .i) (c .bound-at .result) ∙ l .loop .inv .1,
-      bounds-next (s .args .dims) (s .args .ranges) (s .args .bounds .now) (l .loop .out) (c .bound-at .result) (l .loop .i) (l .loop .inv .1) (t .loop-test .taken) (l .loop .inv .2) (c .bound-at .ensures),
+      entry-next (λ (k : ℕ). getD (boundsOf (s .args .dims) (s .args .ranges) (s .args .bounds .now)) k (pos 0)) (l .loop .out) (c .bound-at .result) (pos 0) (l .loop .i) maxPlaces (l .loop .inv .1) (t .loop-test .taken) (l .loop .inv .2) (c .bound-at .ensures),
     )
 
 returns : tie.Need-returns Inv-loop μ-loop
