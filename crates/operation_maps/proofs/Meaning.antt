@@ -9,14 +9,14 @@ use borrow.Author.Tests.{ltb-true, leb-true, eqb-true}
 use lib.Dec.{ltb, leb, eqb}
 use lib.ListN.{length, getD, length-take, length-set}
 use lib.Seq.{getD-set-same}
-use Rattle.radix.specs.Radix.{maxSize, maxCount, prod, isWithin, every, Bounded}
+use Rattle.radix.specs.Radix.{maxSize, maxCount, prod, isWithin, Bounded}
 use Rattle.radix.proofs.Tests.{and-left, and-right, every-at, bounded-of}
 use Rattle.refusal.specs.Judge.{judge}
-use Rattle.refusal.specs.declared.Refusal.the-variants.{ShapeLimits, Attribute, Repeat}
+use Rattle.refusal.specs.declared.Refusal.the-variants.{ShapeLimits, Attribute}
 use Rattle.refusal.specs.declared.Verdict.the-variants.{Done}
 use Rattle.refusal.proofs.Judged.{kept, rest}
 use Rattle.shape.specs.Shape.{maxRank, sizesOf, goodShape}
-use Rattle.shape.specs.Dimensions.{inRange, free, earlierPlace, laterPlace}
+use Rattle.shape.specs.Dimensions.{inRange, free}
 use Rattle.shape.specs.declared.Shape.{Shape}
 use Rattle.shape.proofs.Permutations.{free-apart}
 use Rattle.encoding.specs.Trees.{listed}
@@ -29,7 +29,7 @@ use Rattle.operation_maps.specs.Axes.{Sound, AllSound, axesOut, axesIn, 
 use Rattle.operation_maps.specs.Reshape.{Positive}
 use Rattle.operation_maps.specs.Lists.{select, isListed}
 use Rattle.operation_maps.specs.Selection.{selectMap, spreadMap, selectPairs, Choice}
-use Rattle.operation_maps.specs.Operation.{Operation, maxOperands, allAlike, rankOf, keptAxes, reversedAxes, joinedAxes, slicedAxes, joinedBefore, joinedSizes, goodSizes, keptDims, operands, operandSizes, noShape, maxStride, goodCut, goodCuts, goodBroadcast, operationRules, outputToInput, inputToOutput, Pairs}
+use Rattle.operation_maps.specs.Operation.{goodOperands, goodJoin, listRules, Operation, maxOperands, rankOf, keptAxes, reversedAxes, joinedAxes, slicedAxes, joinedBefore, joinedSizes, goodSizes, keptDims, operands, operandSizes, noShape, maxStride, goodCut, goodCuts, goodBroadcast, operationRules, outputToInput, inputToOutput, Pairs}
 use Rattle.operation_maps.proofs.AxesMean.{axes-out, axes-in}
 use Rattle.operation_maps.proofs.ReshapeNamed.{reshape-out, reshape-in}
 use Rattle.operation_maps.proofs.Fitted.{Small, AllSmall, choice-few, axes-out-fit, axes-in-fit, select-fit, spread-fit, reshape-fit}
@@ -70,6 +70,12 @@ choice-of l n e f =
 
 pub no-choice : (n : ℕ) → Choice [] n
 no-choice n = record { inside = λ k h. absurd (omega arith); apart = λ i j g h q. absurd (omega arith) }
+
+-- a list judged: the shapes, the other attributes and the list keep their rules
+pub list-good : (s a : Bool) (l : List ℕ) → judge (listRules s a l) ≡ Done → (s ≡ true) × ((a ≡ true) × (free l ≡ true))
+list-good s a l e =
+    let f = rest s ShapeLimits _ e in
+    (kept s ShapeLimits _ e, (kept a Attribute _ f, kept (free l) _ _ (rest a Attribute _ f)))
 
 -- ---- dimensions one by one
 
@@ -196,40 +202,53 @@ module _ (count : ℕ) (held : List Shape) (dim : ℕ) where
       let w = bounded-of maxSize ns (and-left (isWithin maxSize ns) _ (and-right (leb (length ns) maxRank) _ e)) in
       omega (arith, w dim (omega (arith, length-set (operandSizes count held 0) dim (joinedBefore count held dim count), l)) .1, getD-set-same (operandSizes count held 0) dim (joinedBefore count held dim count) 0 l)
 
+-- operands that may be joined
+pub record Joins (count : ℕ) (held : List Shape) (dim j : ℕ) : Type 0 where
+  pub one : 0 < count
+  pub few : count ≤ maxOperands
+  pub held-all : count ≤ length held
+  pub dimension : dim < length (operandSizes count held 0)
+  pub asked : j < count
+
+pub joins-of : (count : ℕ) (held : List Shape) (dim j : ℕ) → goodJoin count held dim j ≡ true → Joins count held dim j
+joins-of count held dim j e =
+    let counts = leb 1 count && (leb count maxOperands && leb count (length held)) in
+    let rank = length (operandSizes count held 0) in
+    let a = and-left counts _ e in
+    let b = and-right (leb 1 count) _ a in
+    let p = and-right counts _ e in
+    record {
+      one = leb-true 1 count (and-left (leb 1 count) _ a);
+      few = leb-true count maxOperands (and-left (leb count maxOperands) _ b);
+      held-all = leb-true count (length held) (and-right (leb count maxOperands) _ b);
+      dimension = ltb-true dim rank (and-left (ltb dim rank) _ p);
+      asked = ltb-true j count (and-left (ltb j count) _ (and-right (ltb dim rank) _ p));
+    }
+
 pub right : (op : Operation) → judge (operationRules op) ≡ Done → Right op
 right (Operation.elementwise x) e =
     axes-right (keptAxes (sizesOf x)) (kept-dimensions (sizesOf x) (limited-of x (kept (goodShape x) ShapeLimits _ e))) (Operation.elementwise x) refl refl refl
 right (Operation.broadcast x y l) e =
-    let e1 = rest (goodShape x && goodShape y) ShapeLimits _ e in
-    let g = limited-of y (and-right (goodShape x) (goodShape y) (kept (goodShape x && goodShape y) ShapeLimits _ e)) in
-    let a = kept (goodBroadcast (sizesOf x) (sizesOf y) l) Attribute _ e1 in
-    let r = and-left (inRange (length (sizesOf y)) l) _ (and-right (eqb (length l) (length (sizesOf x))) _ a) in
-    let f = kept (free l) (Repeat (earlierPlace l) (laterPlace l)) _ (rest (goodBroadcast (sizesOf x) (sizesOf y) l) Attribute _ e1) in
-    let w = selects l (sizesOf y) (limited-positive (sizesOf y) g) (g .few) (choice-of l (rankOf y) r f) in
+    let t = list-good (goodShape x && goodShape y) (goodBroadcast (sizesOf x) (sizesOf y) l) l e in
+    let g = limited-of y (and-right (goodShape x) (goodShape y) (t .0)) in
+    let r = and-left (inRange (length (sizesOf y)) l) _ (and-right (eqb (length l) (length (sizesOf x))) _ (t .1 .0)) in
+    let w = selects l (sizesOf y) (limited-positive (sizesOf y) g) (g .few) (choice-of l (rankOf y) r (t .1 .1)) in
     record { out = w .down; inn = w .up; out-fits = w .down-fits; in-fits = w .up-fits }
 right (Operation.transpose x l) e =
-    let e1 = rest (goodShape x) ShapeLimits _ e in
-    let g = limited-of x (kept (goodShape x) ShapeLimits _ e) in
-    let a = kept (eqb (length l) (rankOf x) && inRange (rankOf x) l) Attribute _ e1 in
-    let f = kept (free l) (Repeat (earlierPlace l) (laterPlace l)) _ (rest (eqb (length l) (rankOf x) && inRange (rankOf x) l) Attribute _ e1) in
-    let w = selects l (sizesOf x) (limited-positive (sizesOf x) g) (g .few) (choice-of l (rankOf x) (and-right (eqb (length l) (rankOf x)) _ a) f) in
+    let t = list-good (goodShape x) (eqb (length l) (rankOf x) && inRange (rankOf x) l) l e in
+    let g = limited-of x (t .0) in
+    let w = selects l (sizesOf x) (limited-positive (sizesOf x) g) (g .few) (choice-of l (rankOf x) (and-right (eqb (length l) (rankOf x)) _ (t .1 .0)) (t .1 .1)) in
     record { out = w .up; inn = w .down; out-fits = w .up-fits; in-fits = w .down-fits }
 right (Operation.reverse x l) e =
     axes-right (reversedAxes (sizesOf x) l) (reversed-dimensions (sizesOf x) (limited-of x (kept (goodShape x) ShapeLimits _ e)) l) (Operation.reverse x l) refl refl refl
 right (Operation.concatenate count held dim j) e =
-    let all = every (λ (k : ℕ). goodShape (getD (operands count held) k noShape)) (length (operands count held)) in
-    let counts = leb 1 count && (leb count maxOperands && leb count (length held)) in
-    let places = ltb dim (length (operandSizes count held 0)) && (ltb j count && allAlike count held dim) in
-    let e1 = rest all ShapeLimits _ e in
-    let a = kept (counts && places) Attribute _ e1 in
-    let p = and-right counts places a in
-    let c = and-right (leb count maxOperands) _ (and-right (leb 1 count) _ (and-left counts places a)) in
-    let dim-in = ltb-true dim (length (operandSizes count held 0)) (and-left (ltb dim (length (operandSizes count held 0))) _ p) in
-    let j-in = ltb-true j count (and-left (ltb j count) _ (and-right (ltb dim (length (operandSizes count held 0))) _ p)) in
-    let z = kept (goodSizes (joinedSizes count held dim)) ShapeLimits _ (rest (counts && places) Attribute _ e1) in
-    let l : j < length (operands count held) = omega (arith, j-in, leb-true count (length held) c, length-take count held) in
-    let g = limited-of (getD (operands count held) j noShape) (every-at (λ (k : ℕ). goodShape (getD (operands count held) k noShape)) (length (operands count held)) (kept all ShapeLimits _ e) j l) in
-    let by : joinedBefore count held dim j ≤ 2 ^ 40 = omega (arith, joined-up count held dim j (omega (arith, j-in)), joined-small count held dim dim-in z) in
+    let goodAt : ℕ → Bool = λ (k : ℕ). goodShape (getD (operands count held) k noShape) in
+    let e1 = rest (goodOperands count held) ShapeLimits _ e in
+    let t = joins-of count held dim j (kept (goodJoin count held dim j) Attribute _ e1) in
+    let z = kept (goodSizes (joinedSizes count held dim)) ShapeLimits _ (rest (goodJoin count held dim j) Attribute _ e1) in
+    let l : j < length (operands count held) = omega (arith, t .asked, t .held-all, length-take count held) in
+    let g = limited-of (getD (operands count held) j noShape) (every-at goodAt (length (operands count held)) (kept (goodOperands count held) ShapeLimits _ e) j l) in
+    let by : joinedBefore count held dim j ≤ 2 ^ 40 = omega (arith, joined-up count held dim j (omega (arith, t .asked)), joined-small count held dim (t .dimension) z) in
     axes-right (joinedAxes (operandSizes count held j) dim (joinedBefore count held dim j)) (joined-dimensions (operandSizes count held j) g dim (joinedBefore count held dim j) by) (Operation.concatenate count held dim j) refl refl refl
 right (Operation.reduce x l) e =
     let g = limited-of x (kept (goodShape x) ShapeLimits _ e) in

@@ -5,12 +5,11 @@ use mathlib.Core.List.{List, [], map}
 use Prim.Native.Nat.{ℕ, zero, suc, _+_, _*_, _<_, _≤_, min}
 use native.Mathlib.Numerals.{add-one}
 use native.Mathlib.Omega.{arith}
-use borrow.Author.Tests.{ltb-true, leb-true}
-use lib.Dec.{ltb, leb}
+use lib.Dec.{leb}
 use lib.ListN.{length, getD, take, set, length-take, length-set, length-map}
 use lib.Seq.{getD-take, take-set-lt}
-use Rattle.radix.specs.Radix.{maxSize, maxCount, prod, isWithin, every, Upto}
-use Rattle.radix.proofs.Tests.{and-left, and-right, every-all, every-not, every-at, upto-bounded}
+use Rattle.radix.specs.Radix.{maxSize, maxCount, prod, isWithin, Upto}
+use Rattle.radix.proofs.Tests.{every-all, every-not, every-at, upto-bounded}
 use Rattle.refusal.specs.Judge.{judge}
 use Rattle.refusal.specs.declared.Refusal.the-variants.{ShapeLimits, Attribute}
 use Rattle.refusal.specs.declared.Verdict.the-variants.{Done}
@@ -26,9 +25,9 @@ use Rattle.map_builder.specs.Raw.{encoded}
 use Rattle.operation_maps.specs.Axes.{axesOut, axesIn}
 use Rattle.operation_builder.specs.Family.{axesRaw, isOut}
 use Rattle.operation_builder.specs.AxisDraft.{AllReady}
-use Rattle.operation_maps.specs.Operation.{Operation, maxOperands, noShape, operands, operandSizes, joinedBefore, joinedSizes, alike, allAlike, goodSizes, operationRules, rawOf}
+use Rattle.operation_maps.specs.Operation.{Operation, maxOperands, noShape, operands, operandSizes, joinedBefore, joinedSizes, alike, allAlike, goodSizes, goodOperands, goodJoin, operationRules, rawOf}
 use Rattle.operations.specs.Join.{GoodOperands, Some}
-use Rattle.operation_maps.proofs.Meaning.{limited-of, joined-up, joined-small}
+use Rattle.operation_maps.proofs.Meaning.{limited-of, joined-up, joined-small, joins-of}
 use Rattle.operations.proofs.Changed.{joined-ready}
 
 -- an array of records stands at a map over its list
@@ -42,9 +41,6 @@ module _ (x : Operands) (eight : length (x .shapes) ≡ maxOperands) where
   abbrev goodAt : ℕ → Bool
   goodAt k = goodShape (getD (operands (x .count) (x .shapes)) k noShape)
 
-  abbrev pub allGood : Bool
-  allGood = every goodAt (length (operands (x .count) (x .shapes)))
-
   counted : length (operands (x .count) (x .shapes)) ≡ min (x .count) maxOperands
   counted = length-take (x .count) (x .shapes) ∙ ap (min (x .count)) eight
 
@@ -54,15 +50,15 @@ module _ (x : Operands) (eight : length (x .shapes) ≡ maxOperands) where
   below : (k : ℕ) → k < min (x .count) maxOperands → (k < x .count) × (k < maxOperands)
   below k h = (omega (arith, h), omega (arith, h))
 
-  pub operands-bad : (k n : ℕ) → n ≡ min (x .count) maxOperands → k < n → goodShape (held k) ≡ false → false ≡ allGood
+  pub operands-bad : (k n : ℕ) → n ≡ min (x .count) maxOperands → k < n → goodShape (held k) ≡ false → false ≡ goodOperands (x .count) (x .shapes)
   operands-bad k n e h b =
       sym (every-not goodAt (length (operands (x .count) (x .shapes))) k (omega (arith, counted, e, h)) (ap goodShape (operand-is k (below k (omega (arith, e, h)) .0)) ∙ b))
 
-  pub operands-good : (n : ℕ) → n ≡ min (x .count) maxOperands → ((k : ℕ) → k < n → goodShape (held k) ≡ true) → true ≡ allGood
+  pub operands-good : (n : ℕ) → n ≡ min (x .count) maxOperands → ((k : ℕ) → k < n → goodShape (held k) ≡ true) → true ≡ goodOperands (x .count) (x .shapes)
   operands-good n e h =
       sym (every-all goodAt (length (operands (x .count) (x .shapes))) (λ k l. let q : k < min (x .count) maxOperands = omega (arith, l, counted) in ap goodShape (operand-is k (below k q .0)) ∙ h k (omega (arith, q, e))))
 
-  pub good-operands : allGood ≡ true → GoodOperands x
+  pub good-operands : goodOperands (x .count) (x .shapes) ≡ true → GoodOperands x
   good-operands e k h l =
       sym (ap goodShape (operand-is k h)) ∙ every-at goodAt (length (operands (x .count) (x .shapes))) e k (omega (arith, h, l, counted))
 
@@ -133,29 +129,16 @@ pub record Judged (x : Operands) (dim j : ℕ) : Type 0 where
   pub dimension : dim < length (operandSizes (x .count) (x .shapes) 0)
   pub by : joinedBefore (x .count) (x .shapes) dim j ≤ maxSize
 
-abbrev pub joinTest : Operands → ℕ → ℕ → Bool
-joinTest x dim j =
-    (leb 1 (x .count) && (leb (x .count) maxOperands && leb (x .count) (length (x .shapes))))
-    && (ltb dim (length (operandSizes (x .count) (x .shapes) 0)) && (ltb j (x .count) && allAlike (x .count) (x .shapes) dim))
-
-pub join-some : (x : Operands) (dim j : ℕ) → GoodOperands x → joinTest x dim j ≡ true → Some x × ((j < x .count) × (dim < length (operandSizes (x .count) (x .shapes) 0)))
-join-some x dim j g e =
-    let n = x .count in
-    let counts = leb 1 n && (leb n maxOperands && leb n (length (x .shapes))) in
-    let a = and-left counts _ e in
-    let p = and-right counts _ e in
-    let one = leb-true 1 n (and-left (leb 1 n) _ a) in
-    let few = leb-true n maxOperands (and-left (leb n maxOperands) _ (and-right (leb 1 n) _ a)) in
-    let dim-in = ltb-true dim (length (operandSizes n (x .shapes) 0)) (and-left (ltb dim (length (operandSizes n (x .shapes) 0))) _ p) in
-    let j-in = ltb-true j n (and-left (ltb j n) _ (and-right (ltb dim (length (operandSizes n (x .shapes) 0))) _ p)) in
-    (record { good = g; one = one; few = few }, (j-in, dim-in))
+pub join-some : (x : Operands) (dim j : ℕ) → GoodOperands x → goodJoin (x .count) (x .shapes) dim j ≡ true
+    → Some x × ((j < x .count) × (dim < length (operandSizes (x .count) (x .shapes) 0)))
+join-some x dim j g e = let t = joins-of (x .count) (x .shapes) dim j e in (record { good = g; one = t .one; few = t .few }, (t .asked, t .dimension))
 
 pub concatenate-judged : (x : Operands) (dim j : ℕ) → length (x .shapes) ≡ maxOperands → judge (operationRules (Operation.concatenate (x .count) (x .shapes) dim j)) ≡ Done → Judged x dim j
 concatenate-judged x dim j eight e =
-    let e1 = rest (allGood x eight) ShapeLimits _ e in
-    let g = good-operands x eight (kept (allGood x eight) ShapeLimits _ e) in
-    let s = join-some x dim j g (kept (joinTest x dim j) Attribute _ e1) in
-    let z = kept (goodSizes (joinedSizes (x .count) (x .shapes) dim)) ShapeLimits _ (rest (joinTest x dim j) Attribute _ e1) in
+    let e1 = rest (goodOperands (x .count) (x .shapes)) ShapeLimits _ e in
+    let g = good-operands x eight (kept (goodOperands (x .count) (x .shapes)) ShapeLimits _ e) in
+    let s = join-some x dim j g (kept (goodJoin (x .count) (x .shapes) dim j) Attribute _ e1) in
+    let z = kept (goodSizes (joinedSizes (x .count) (x .shapes) dim)) ShapeLimits _ (rest (goodJoin (x .count) (x .shapes) dim j) Attribute _ e1) in
     record {
       some = s .0;
       inside = s .1 .0;

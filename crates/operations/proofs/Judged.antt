@@ -15,7 +15,7 @@ use Rattle.refusal.specs.declared.Refusal.{Refusal}
 use Rattle.refusal.specs.declared.Refusal.the-variants.{ShapeLimits, Attribute, Repeat}
 use Rattle.refusal.specs.declared.Verdict.{Verdict}
 use Rattle.refusal.specs.declared.Verdict.the-variants.{Done, Refused}
-use Rattle.refusal.proofs.Judged.{kept, rest, after-done, after-refused}
+use Rattle.refusal.proofs.Judged.{kept, after-done, after-refused}
 use Rattle.refusal.proofs.Theorems.{number-positive}
 use Rattle.radix.specs.Radix.{prod, every}
 use Rattle.radix.proofs.Tests.{and-true, and-false, and-left, and-right, every-all, every-not, every-at}
@@ -33,7 +33,7 @@ use Rattle.map_builder.specs.Raw.{encoded}
 use Rattle.operation_maps.specs.Lists.{select}
 use Rattle.operation_builder.specs.Family.{selection, isOut, Chosen}
 use Rattle.operation_maps.specs.Operation.{foldedAnswer, Operation, rankOf, goodBroadcast, keptDims, listRules, operationRules, outputToInput, inputToOutput, outputToInputAnswer, inputToOutputAnswer, rawOf, operationAnswer}
-use Rattle.operation_maps.proofs.Meaning.{choice-of}
+use Rattle.operation_maps.proofs.Meaning.{choice-of, list-good}
 
 -- ---- the answer: folding's own, or the refusal of a rule
 
@@ -79,11 +79,6 @@ module _ (g a : Bool) (l : List ℕ) where
 
   pub list-repeat : g ≡ true → a ≡ true → firstRepeat l ≡ verdictAnswer (judge (listRules g a l))
   list-repeat e f = rw (e, f) (repeat-judged l)
-
-  pub list-good : judge (listRules g a l) ≡ Done → (g ≡ true) × ((a ≡ true) × (free l ≡ true))
-  list-good e =
-      let e1 = rest g ShapeLimits _ e in
-      (kept g ShapeLimits _ e, (kept a Attribute _ e1, kept (free l) (Repeat (earlierPlace l) (laterPlace l)) _ (rest a Attribute _ e1)))
 
 -- the attributes matter only where the shapes are good
 pub list-same : (g h a b : Bool) (l : List ℕ) → g ≡ h → (h ≡ true → a ≡ b) → judge (listRules g a l) ≡ judge (listRules h b l)

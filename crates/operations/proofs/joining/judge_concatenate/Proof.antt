@@ -3,8 +3,8 @@ use mathlib.Core.Path.{_≡_, sym, ap, _∙_}
 use borrow.Author.Tests.{not-true, not-false}
 use mathlib.Core.Bool.{true}
 use native.Mathlib.Omega.{arith}
-use Rattle.operations.proofs.Concatenated.{mapped-long, good-operands, join-some, sizes-is, allGood, joinTest}
-use Rattle.operation_maps.specs.Operation.{maxOperands}
+use Rattle.operations.proofs.Concatenated.{mapped-long, good-operands, join-some, sizes-is}
+use Rattle.operation_maps.specs.Operation.{goodOperands, goodJoin, maxOperands}
 use lib.ListN.{length}
 use Rattle.operations.specs.Join.{GoodOperands}
 use borrow.Author.Needs.{needs}
@@ -31,10 +31,10 @@ fine e = good-operands (e .before .before .args .x) (eight (e .before .before)) 
 good-join-requires : tie.Need-good-join-requires
 good-join-requires c κs = fine c
 
-first : (j : tie.After-good-join) → allGood (j .before .before .before .args .x) (eight (j .before .before .before)) ≡ true
+first : (j : tie.After-good-join) → goodOperands (j .before .before .before .args .x .count) (j .before .before .before .args .x .shapes) ≡ true
 first j = let e = j .before in sym (e .before .good-operands .ensures) ∙ not-false (e .before .good-operands .result) (e .if1 .left)
 
-second : (e : tie.Else2) → joinTest (e .before .before .before .before .args .x) (e .before .before .before .before .args .dimension) (e .before .before .before .before .args .operand) ≡ true
+second : (e : tie.Else2) → goodJoin (e .before .before .before .before .args .x .count) (e .before .before .before .before .args .x .shapes) (e .before .before .before .before .args .dimension) (e .before .before .before .before .args .operand) ≡ true
 second e = sym (e .before .good-join .ensures) ∙ not-false (e .before .good-join .result) (e .if2 .left)
 
 returns-2 : tie.Need-returns-2
