@@ -1,6 +1,7 @@
 // The answer to a line, by the name that it starts with.
 use check::same;
 use layout_requests::answer_named;
+use map_requests::answer_compose;
 use map_requests::answer_eval;
 use map_requests::answer_fold;
 use map_requests::answer_range;
@@ -27,6 +28,9 @@ pub fn respond(line: &[u8], out: &mut [u8], at: usize) -> usize {
     }
     if same(word, b"fold") {
         return answer_fold(line, from, out, at);
+    }
+    if same(word, b"compose") {
+        return answer_compose(line, from, out, at);
     }
     answer_named(line, name, out, at)
 }
