@@ -21,7 +21,7 @@ use Rattle.encoding.proofs.Lists.{map-at}
 use Rattle.encoding.proofs.Listed.{listed-length, listed-at, listed-is}
 use Rattle.encoding.proofs.Trees.{runs-all}
 use Rattle.encoding.specs.Trees.{listed, exprAt, constraintAt, mapConstraints}
-use Rattle.compose.specs.ComposeMap.{endAt, joinedEnds, putInto, insideAt, substituted, composedConstraints}
+use Rattle.compose.specs.ComposeMap.{endAt, joinedEnds, putInto, insideAt, substituted, insideConstraints, substitutedConstraints, composedConstraints}
 use Rattle.compose.specs.Ready.{Joinable, constraintCount, constraintOf, EndsOf}
 
 -- ---- the ends at a place
@@ -86,10 +86,10 @@ module _ (f g : IndexingMap) where
   none = record { expr = Expr.const (pos 0); interval = span (pos 0) (pos 0) }
 
   abbrev inner : List Constraint
-  inner = listed (insideAt f g) (f .results)
+  inner = insideConstraints f g
 
   abbrev others : List Constraint
-  others = map (λ (c : Constraint). substituted f c) (mapConstraints g)
+  others = substitutedConstraints f g
 
   first-long : length (mapConstraints f) ≡ f .constraints
   first-long = listed-length (constraintAt f) (f .constraints)
@@ -100,16 +100,16 @@ module _ (f g : IndexingMap) where
   others-long : length others ≡ g .constraints
   others-long = length-map (mapConstraints g) (λ (c : Constraint). substituted f c) ∙ listed-length (constraintAt g) (g .constraints)
 
-  pub constraints-long : length (composedConstraints f g) ≡ constraintCount f g
-  constraints-long =
-      omega (arith, length-append (mapConstraints f) (inner ++ others), length-append inner others, first-long, inner-long, others-long)
-
   past-first : (i : ℕ) → getD (composedConstraints f g) (f .constraints + i) none ≡ getD (inner ++ others) i none
   past-first i =
       ap (λ (n : ℕ). getD (composedConstraints f g) (n + i) none) (sym first-long) ∙ getD-append-add (mapConstraints f) (inner ++ others) i none
 
   past-inner : (i : ℕ) → getD (inner ++ others) (f .results + i) none ≡ getD others i none
   past-inner i = ap (λ (n : ℕ). getD (inner ++ others) (n + i) none) (sym inner-long) ∙ getD-append-add inner others i none
+
+  pub constraints-long : length (composedConstraints f g) ≡ constraintCount f g
+  constraints-long =
+      omega (arith, length-append (mapConstraints f) (inner ++ others), length-append inner others, first-long, inner-long, others-long)
 
   pub constraint-at : (k : ℕ) → k < constraintCount f g → constraintOf f g k ≡ getD (composedConstraints f g) k none
   constraint-at k h = go (decLt k (f .constraints)) (decLt (k - f .constraints) (f .results))

@@ -14,10 +14,10 @@ use Rattle.plan.specs.Value.{leastOf, placeOf, through, valueOf, planOf}
 use Rattle.route.specs.Same.{sameBy, sameLayout}
 use Rattle.route.specs.Stations.{blank, countsKept, layoutsKept, sizesKept}
 use Rattle.route.specs.Route.{goodLimits, routeOf}
-use Rattle.fold.proofs.Samples.{folds-maps}
+use Rattle.operation_maps.proofs.Samples.{makes-maps}
 use Rattle.samples.specs.Samples.{Sample, samples}
 
 -- Every sample comes out as document 01 says.
 pub all-samples : map (λ (s : Sample). s .asked) samples ≡ map (λ (s : Sample). s .expected) samples
-unfolding samples elementCount paddedSize pointOffset elementHeld goodShape goodLayout isWithin isPermutation inRange laterPlace place padded physical offsetAt offset tileDims tileIndex untile candidate cell routeOf goodLimits countsKept layoutsKept sizesKept blank sameBy sameLayout price movesOf costOf leastOf placeOf through valueOf planOf folds-maps
+unfolding samples elementCount paddedSize pointOffset elementHeld goodShape goodLayout isWithin isPermutation inRange laterPlace place padded physical offsetAt offset tileDims tileIndex untile candidate cell routeOf goodLimits countsKept layoutsKept sizesKept blank sameBy sameLayout price movesOf costOf leastOf placeOf through valueOf planOf makes-maps
 all-samples = refl

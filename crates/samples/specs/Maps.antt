@@ -1,8 +1,8 @@
--- The maps of the samples: what an operation gives before folding, and what document 01 prints. Assumes nothing.
-use mathlib.Core.List.{List, [], _∷_, map}
+-- The maps of the samples, as document 01 prints them. Assumes nothing.
+use mathlib.Core.List.{List, [], _∷_}
 use Prim.Native.Nat.{ℕ}
 use lib.IntN.{ℤ, pos, negℤ}
-use Rattle.expression.specs.Expression.{d, Op, floordiv, modulo, Expr, span}
+use Rattle.expression.specs.Expression.{d, floordiv, modulo, Expr, span}
 use Rattle.indexing.specs.declared.IndexingMap.{IndexingMap}
 use Rattle.folding.specs.Map.{Constraint}
 use Rattle.encoding.specs.Encode.{encodeMap}
@@ -26,31 +26,16 @@ joinOf e = encodeMap 2 0 (pos 0 ∷ pos 0 ∷ []) (pos 3 ∷ pos 7 ∷ []) (e �
 abbrev joined : Expr
 joined = Expr.add (Expr.mul (pos 8) (dim 0)) (dim 1)
 
--- (d0 * 8 + d1) floordiv 1
-abbrev pub joinGiven : IndexingMap
-joinGiven = joinOf (Expr.op floordiv joined 1)
-
-abbrev pub joinFolded : IndexingMap
-joinFolded = joinOf joined
+abbrev pub joinMap : IndexingMap
+joinMap = joinOf joined
 
 -- [10,20,50] with the slices [5:10:1], [3:20:7] and [0:50:2], input to output: d0 in [5, 9], d1 in [3, 17], d2 in [0, 48]
 abbrev sliceOf : List Expr → List Constraint → IndexingMap
 sliceOf = encodeMap 3 0 (pos 5 ∷ pos 3 ∷ pos 0 ∷ []) (pos 9 ∷ pos 17 ∷ pos 48 ∷ [])
 
--- d - start, by the stride
-abbrev stepped : Op → List Expr
-stepped o =
-    Expr.op o (shifted (dim 0) (negℤ (pos 5))) 1
-    ∷ Expr.op o (shifted (dim 1) (negℤ (pos 3))) 7
-    ∷ Expr.op o (shifted (dim 2) (pos 0)) 2
-    ∷ []
-
-abbrev pub sliceGiven : IndexingMap
-sliceGiven = sliceOf (stepped floordiv) (map isZero (stepped modulo))
-
 -- d0 - 5, (d1 + 4) floordiv 7 - 1 and d2 floordiv 2, with (d1 + 4) mod 7 and d2 mod 2 in [0, 0]
-abbrev pub sliceFolded : IndexingMap
-sliceFolded =
+abbrev pub sliceMap : IndexingMap
+sliceMap =
     sliceOf
     (shifted (dim 0) (negℤ (pos 5))
     ∷ shifted (Expr.op floordiv (shifted (dim 1) (pos 4)) 7) (negℤ (pos 1))
@@ -62,16 +47,9 @@ sliceFolded =
 abbrev splitOf : List Expr → IndexingMap
 splitOf es = encodeMap 3 0 (pos 0 ∷ pos 0 ∷ pos 0 ∷ []) (pos 1 ∷ pos 3 ∷ pos 3 ∷ []) es []
 
--- d0 * 16 + d1 * 4 + d2
-abbrev linear : Expr
-linear = Expr.add (Expr.add (Expr.mul (pos 16) (dim 0)) (Expr.mul (pos 4) (dim 1))) (dim 2)
-
-abbrev pub splitGiven : IndexingMap
-splitGiven = splitOf (Expr.op floordiv linear 8 ∷ Expr.op modulo (Expr.op floordiv linear 1) 8 ∷ [])
-
 -- d0 * 2 + d1 floordiv 2 and d2 + (d1 mod 2) * 4
-abbrev pub splitFolded : IndexingMap
-splitFolded =
+abbrev pub splitMap : IndexingMap
+splitMap =
     splitOf
     (Expr.add (Expr.mul (pos 2) (dim 0)) (Expr.op floordiv (dim 1) 2)
     ∷ Expr.add (dim 2) (Expr.mul (pos 4) (Expr.op modulo (dim 1) 2))

@@ -15,8 +15,8 @@ use Rattle.plan.specs.Answer.{spread}
 use Rattle.route.specs.Route.{routeZeros, routeOf}
 use Rattle.route.specs.declared.Station.{Station}
 use Rattle.indexing.specs.declared.IndexingMap.{IndexingMap}
-use Rattle.fold.specs.FoldMap.{foldAnswer}
-use Rattle.samples.specs.Maps.{joinGiven, joinFolded, sliceGiven, sliceFolded, splitGiven, splitFolded}
+use Rattle.operation_maps.specs.Operation.{Operation, outputToInputAnswer, inputToOutputAnswer}
+use Rattle.samples.specs.Maps.{joinMap, sliceMap, splitMap}
 
 -- an answer on paper, of numbers or of a map, or a whole number
 pub data Value : Type 0 where
@@ -32,8 +32,8 @@ pub record Sample : Type 0 where
 abbrev says : Answer ℕ → Answer ℕ → Sample
 says a b = record { asked = answer a; expected = answer b }
 
-abbrev folds-to : IndexingMap → IndexingMap → Sample
-folds-to m wanted = record { asked = mapped (foldAnswer m); expected = mapped (done (wanted ∷ [])) }
+abbrev hands-out : Answer IndexingMap → IndexingMap → Sample
+hands-out a wanted = record { asked = mapped a; expected = mapped (done (wanted ∷ [])) }
 
 abbrev comes-to : ℤ → ℤ → Sample
 comes-to a b = record { asked = integer a; expected = integer b }
@@ -43,6 +43,9 @@ matrix a b = record { rank = 2; sizes = a ∷ b ∷ 0 ∷ 0 ∷ 0 ∷ 0 ∷ [] }
 
 abbrev vector : ℕ → Shape
 vector a = record { rank = 1; sizes = a ∷ 0 ∷ 0 ∷ 0 ∷ 0 ∷ 0 ∷ [] }
+
+abbrev cube : ℕ → ℕ → ℕ → Shape
+cube a b c = record { rank = 3; sizes = a ∷ b ∷ c ∷ 0 ∷ 0 ∷ 0 ∷ [] }
 
 abbrev untiled : ℕ → ℕ → Layout
 untiled a b = record { rank = 2; «minor_to_major» = a ∷ b ∷ 0 ∷ 0 ∷ 0 ∷ 0 ∷ []; tiles = 0; «tile_len» = replicate 3 0; tile = replicate 18 0 }
@@ -99,11 +102,11 @@ samples =
     ∷ says (pointOffset (matrix 4 8) tiled-twice (0 ∷ 1 ∷ [])) (at 2)
     ∷ says (pointOffset (matrix 4 8) tiled-twice (3 ∷ 7 ∷ [])) (at 31)
     -- [32] to [4,8], output to input: (d0 * 8 + d1)
-    ∷ folds-to joinGiven joinFolded
-    -- slice [3:20:7], input to output: (d1 + 4) floordiv 7 - 1 with (d1 + 4) mod 7 in [0, 0]
-    ∷ folds-to sliceGiven sliceFolded
+    ∷ hands-out (outputToInputAnswer (Operation.reshape (vector 32) (matrix 4 8))) joinMap
+    -- slice [3:20:7] (and [5:10:1], [0:50:2] beside it), input to output: (d1 + 4) floordiv 7 - 1 with (d1 + 4) mod 7 in [0, 0]
+    ∷ hands-out (inputToOutputAnswer (Operation.slice (cube 10 20 50) (5 ∷ 3 ∷ 0 ∷ []) (10 ∷ 20 ∷ 50 ∷ []) (1 ∷ 7 ∷ 2 ∷ []))) sliceMap
     -- [4,8] to [2,4,4], output to input: (d0 * 2 + d1 floordiv 2, d2 + (d1 mod 2) * 4)
-    ∷ folds-to splitGiven splitFolded
+    ∷ hands-out (outputToInputAnswer (Operation.reshape (matrix 4 8) (cube 2 4 4))) splitMap
     -- [3,5] at stations [A,T], [T,A], [T]: K = 1 gives places 0,1,0, total 2,078; K = 0 gives 1,0,0, total 3,072
     ∷ says (through (matrix 3 5) (station (A ∷ T ∷ []) ∷ station (T ∷ A ∷ []) ∷ station (T ∷ []) ∷ []) 1) (gives (0 ∷ 1 ∷ 0 ∷ []) 2078)
     ∷ says (through (matrix 3 5) (station (A ∷ T ∷ []) ∷ station (T ∷ A ∷ []) ∷ station (T ∷ []) ∷ []) 0) (gives (1 ∷ 0 ∷ 0 ∷ []) 3072)
