@@ -59,7 +59,7 @@ unfolding eqℤ
 equal-test (pos a) b e = subst (λ z. T (eqℤ (pos a) z)) e (eqb-refl a)
 equal-test (negsuc a) b e = subst (λ z. T (eqℤ (negsuc a) z)) e (eqb-refl a)
 
-floor-of-mod : (k : ℤ) (c : ℕ) → 0 < c → floorDiv (floorMod k c) c ≡ pos 0
+pub floor-of-mod : (k : ℤ) (c : ℕ) → 0 < c → floorDiv (floorMod k c) c ≡ pos 0
 floor-of-mod k c h = ap (λ z. floorDiv z c) (rem-is k c) ∙ ap pos (NatL.div-eq-of-lt (rem-lt k c h))
 
 pub keeps-rest : (c : ℕ) (t : Sum) → 0 < c → T (keepsAll c (partR c t))

@@ -15,6 +15,12 @@ pub mod Numbers
 pub mod Judged
 pub mod WorkingAgain
 pub mod FoldedTree
+pub mod Magnitude
+pub mod Stuck
+pub mod Natural
+pub mod PlainTrees
+pub mod Shifted
+pub mod FoldedSize
 pub mod Map
 pub mod Theorems
 pub mod Samples

@@ -44,10 +44,10 @@ module _ (D S : ℕ) where
   join-encodable [] ys h k = k
   join-encodable (x ∷ xs) ys h k = (h .0, join-encodable xs ys (h .1) k)
 
-nodes-join : (xs ys : List Expr) → length (nodesOf (xs ++ ys)) ≡ length (nodesOf xs) + length (nodesOf ys)
+pub nodes-join : (xs ys : List Expr) → length (nodesOf (xs ++ ys)) ≡ length (nodesOf xs) + length (nodesOf ys)
 nodes-join xs ys = ap length (nodes-append xs ys) ∙ length-append (nodesOf xs) (nodesOf ys)
 
-nodes-more : (x : Expr) (xs : List Expr) → length (nodesOf (x ∷ xs)) ≡ nodeCount x + length (nodesOf xs)
+pub nodes-more : (x : Expr) (xs : List Expr) → length (nodesOf (x ∷ xs)) ≡ nodeCount x + length (nodesOf xs)
 nodes-more x xs = length-append (postfix x) (nodesOf xs) ∙ ap (λ (n : ℕ). n + length (nodesOf xs)) (postfix-length x)
 
 -- ---- operations that treat each dimension by itself
@@ -70,7 +70,7 @@ record Fit (x : Side) : Type 0 where
   few-tests : (k : ℕ) → length (x .tests (Expr.var d k)) ≤ 1
   test-nodes : (k : ℕ) → length (nodesOf (constraintTrees (x .tests (Expr.var d k)))) ≤ 4
 
-negative : (n : ℕ) → natAbs (negℤ (pos n)) ≡ n
+pub negative : (n : ℕ) → natAbs (negℤ (pos n)) ≡ n
 negative zero = refl
 negative (suc n) = refl
 
@@ -187,7 +187,7 @@ unfolding nodeCount
 variables-nodes [] = refl
 variables-nodes (j ∷ l) = omega (arith, nodes-more (Expr.var d j) (map (λ (k : ℕ). Expr.var d k) l), variables-nodes l)
 
-no-constraints : (es : List Expr) → treesOf es [] ≡ es
+pub no-constraints : (es : List Expr) → treesOf es [] ≡ es
 no-constraints [] = refl
 no-constraints (e ∷ es) = ap (λ (l : List Expr). e ∷ l) (no-constraints es)
 
@@ -203,7 +203,7 @@ plain-fit D S es a b c n e =
       encodable = subst (AllEncodable D S) (sym (no-constraints es)) e;
     }
 
-whole-length : (ns : List ℕ) → length (wholeOf ns) ≡ length ns
+pub whole-length : (ns : List ℕ) → length (wholeOf ns) ≡ length ns
 whole-length ns = length-map ns upTo
 
 pub select-fit : (l ns : List ℕ) → length ns ≤ maxRank → Choice l (length ns) → Fits (selectMap l ns)
@@ -257,7 +257,7 @@ spread-fit l ns n c =
 
 -- ---- reshape
 
-tail-le : (n : ℕ) (ns : List ℕ) → 0 < n → prod ns ≤ prod (n ∷ ns)
+pub tail-le : (n : ℕ) (ns : List ℕ) → 0 < n → prod ns ≤ prod (n ∷ ns)
 tail-le n ns h = omega (arith, mul-le-mul-right (prod ns) h)
 
 linear-from-encodable : (D : ℕ) (e : Expr) (k : ℕ) (ns : List ℕ) → Positive ns → prod ns ≤ 2 ^ 40 → k + length ns ≤ D → Encodable D 0 e → Encodable D 0 (linearFrom e k ns)
@@ -312,7 +312,7 @@ digits-nodes e (n ∷ ns) =
     let r = digits-nodes e ns in
     (ap suc (r .0), omega (arith, nodes-more (Expr.op modulo (Expr.op floordiv e (prod ns)) n) (digitTrees ns e), r .1))
 
-split-nodes : (e : Expr) (ns : List ℕ) → (length (splitTrees ns e) ≡ length ns) × (length (nodesOf (splitTrees ns e)) ≤ length ns * (nodeCount e + 2))
+pub split-nodes : (e : Expr) (ns : List ℕ) → (length (splitTrees ns e) ≡ length ns) × (length (nodesOf (splitTrees ns e)) ≤ length ns * (nodeCount e + 2))
 unfolding splitTrees nodeCount
 split-nodes e [] = (refl, omega arith)
 split-nodes e (n ∷ ns) =

@@ -32,7 +32,7 @@ use Rattle.operation_maps.specs.Points.{Inside, Names, Sends, none, more
 
 -- ---- values inside ranges, by place
 
-abbrev rangeAt : List Range → ℕ → Range
+abbrev pub rangeAt : List Range → ℕ → Range
 rangeAt rs n = span (getD (lows rs) n (pos 0)) (getD (highs rs) n (pos 0))
 
 inside-at : {zs : List ℤ} {rs : List Range} → Inside zs rs → (n : ℕ) → n < length rs → In (getD zs n (pos 0)) (rangeAt rs n)
@@ -67,12 +67,12 @@ module _ (ρ : _) where
 -- ---- places
 
 module _ (ds ss : List ℤ) (few : length ds ≤ maxVariables) where
-  place-dimension : (k : ℕ) → k < length ds → getD (placesOf ds ss) k (pos 0) ≡ getD ds k (pos 0)
+  pub place-dimension : (k : ℕ) → k < length ds → getD (placesOf ds ss) k (pos 0) ≡ getD ds k (pos 0)
   place-dimension k l =
       let n = filled-length maxVariables (pos 0) ds in
       List·getD-append (filled maxVariables (pos 0) ds) ss (pos 0) k (omega arith) ∙ filled-at maxVariables (pos 0) ds k (omega arith)
 
-  place-range : (k : ℕ) → getD (placesOf ds ss) (maxVariables + k) (pos 0) ≡ getD ss k (pos 0)
+  pub place-range : (k : ℕ) → getD (placesOf ds ss) (maxVariables + k) (pos 0) ≡ getD ss k (pos 0)
   place-range k =
       ap (λ (i : ℕ). getD (placesOf ds ss) (i + k) (pos 0)) (sym (filled-length maxVariables (pos 0) ds))
       ∙ getD-append-add (filled maxVariables (pos 0) ds) ss k (pos 0)
@@ -92,13 +92,13 @@ module _ (m : Raw) (w : Fits m) where
   abbrev hi : List ℤ
   hi = placesOf (highs (m .dims)) (highs (m .ranges))
 
-  lows-few : length (lows (m .dims)) ≤ maxVariables
+  pub lows-few : length (lows (m .dims)) ≤ maxVariables
   lows-few = omega (arith, length-map (m .dims) (λ (r : Range). r .lo), w .few-dims)
 
-  highs-few : length (highs (m .dims)) ≤ maxVariables
+  pub highs-few : length (highs (m .dims)) ≤ maxVariables
   highs-few = omega (arith, length-map (m .dims) (λ (r : Range). r .hi), w .few-dims)
 
-  dims-same : (k : ℕ) → k < D → span (getD (encoded m .lower) k (pos 0)) (getD (encoded m .upper) k (pos 0)) ≡ rangeAt (m .dims) k
+  pub dims-same : (k : ℕ) → k < D → span (getD (encoded m .lower) k (pos 0)) (getD (encoded m .upper) k (pos 0)) ≡ rangeAt (m .dims) k
   unfolding encoded
   dims-same k l =
       let a = encoded-dimension D S lo hi (m .results) (m .constraints) w k l in
@@ -106,7 +106,7 @@ module _ (m : Raw) (w : Fits m) where
       (a .0 ∙ place-dimension (lows (m .dims)) (lows (m .ranges)) lows-few k (omega (arith, length-map (m .dims) (λ (r : Range). r .lo))))
       (a .1 ∙ place-dimension (highs (m .dims)) (highs (m .ranges)) highs-few k (omega (arith, length-map (m .dims) (λ (r : Range). r .hi))))
 
-  ranges-same : (k : ℕ) → k < S
+  pub ranges-same : (k : ℕ) → k < S
       → span (getD (encoded m .lower) (maxVariables + k) (pos 0)) (getD (encoded m .upper) (maxVariables + k) (pos 0)) ≡ rangeAt (m .ranges) k
   unfolding encoded
   ranges-same k l =

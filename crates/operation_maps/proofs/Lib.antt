@@ -8,5 +8,10 @@ pub mod Fitted
 pub mod Meaning
 pub mod Numbered
 pub mod Unread
+pub mod Limits
+pub mod LimitsSelection
+pub mod LimitsReshape
+pub mod LimitsAxes
+pub mod NeverRefused
 pub mod Theorems
 pub mod Samples

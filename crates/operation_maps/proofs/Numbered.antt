@@ -1,51 +1,19 @@
--- The number of an operation's answer: its own rules, then folding's. Assumes nothing.
-use mathlib.Core.Path.{_≡_, refl, ap, _∙_}
+-- The number that an operation's own rules give. Assumes nothing.
+use mathlib.Core.Path.{_≡_, refl}
 use mathlib.Core.Bool.{Bool, true, false, cond, _&&_}
-use mathlib.Core.List.{List, [], _∷_, _++_}
+use mathlib.Core.List.{List, [], _∷_}
 use Prim.Native.Nat.{ℕ}
 use lib.Dec.{eqb}
 use lib.ListN.{length}
 use Rattle.radix.specs.Radix.{prod}
-use Rattle.refusal.specs.Number.{answered, verdictAnswer, numberOf}
-use Rattle.refusal.specs.Judge.{Rule, rule, judge}
+use Rattle.refusal.specs.Number.{verdictAnswer, numberOf}
+use Rattle.refusal.specs.Judge.{rule, judge}
 use Rattle.refusal.specs.declared.Refusal.{Refusal}
-use Rattle.refusal.specs.declared.Refusal.the-variants.{ShapeLimits, Attribute, Repeat, LayoutRule, PaddedSize, Outside, WrongLength, CountLimit, WorkingLimit, ShortBuffer, NoPlan}
-use Rattle.refusal.specs.declared.Verdict.{Verdict}
-use Rattle.refusal.specs.declared.Verdict.the-variants.{Done, Refused}
-use Rattle.refusal.proofs.Judged.{after-done, after-refused}
+use Rattle.refusal.specs.declared.Refusal.the-variants.{ShapeLimits, Attribute, Repeat}
 use Rattle.shape.specs.Shape.{sizesOf, goodShape}
 use Rattle.shape.specs.Dimensions.{inRange, free, earlierPlace, laterPlace}
-use Rattle.indexing.specs.Answers.{noMap, mapBy}
-use Rattle.indexing.specs.declared.IndexingMap.{IndexingMap}
 use Rattle.operation_maps.specs.Operation.{Operation, rankOf, goodSizes, goodBroadcast, goodCuts, goodOperands, goodJoin, joinedSizes, listRules, operationRules}
-use Rattle.operation_maps.specs.Numbers.{listNumber, ruleNumber, orElse}
-
--- ---- rules judged before others
-
-refused-else : (r : Refusal) (n : ℕ) → numberOf r ≡ orElse (numberOf r) n
-refused-else ShapeLimits n = refl
-refused-else Attribute n = refl
-refused-else (Repeat e l) n = refl
-refused-else LayoutRule n = refl
-refused-else PaddedSize n = refl
-refused-else Outside n = refl
-refused-else WrongLength n = refl
-refused-else CountLimit n = refl
-refused-else WorkingLimit n = refl
-refused-else ShortBuffer n = refl
-refused-else NoPlan n = refl
-
-pub number-after : (rules others : List Rule) (m : IndexingMap) → mapBy (rules ++ others) m .number ≡ orElse (verdictAnswer (judge rules) .number) (mapBy others m .number)
-number-after rules others m = go (judge rules) refl
-  where
-    told : Verdict → ℕ
-    told v = answered (noMap ∷ []) v (m ∷ []) .number
-
-    go : (v : Verdict) → judge rules ≡ v → mapBy (rules ++ others) m .number ≡ orElse (verdictAnswer (judge rules) .number) (mapBy others m .number)
-    go Done e = ap told (after-done rules others e) ∙ rw e
-    go (Refused r) e = ap told (after-refused rules others r e) ∙ refused-else r (mapBy others m .number) ∙ rw e
-
--- ---- an operation's own rules
+use Rattle.operation_maps.specs.Numbers.{listNumber, ruleNumber}
 
 list-number : (s a : Bool) (l : List ℕ) → verdictAnswer (judge (listRules s a l)) .number ≡ listNumber s a l
 list-number s a l = go s a (free l) (Repeat (earlierPlace l) (laterPlace l)) refl

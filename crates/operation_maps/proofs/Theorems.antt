@@ -8,21 +8,21 @@ use native.Mathlib.Nat.{div-add-mod'}
 use native.Mathlib.Omega.{arith}
 use lib.IntN.{ℤ, pos, natAbs}
 use lib.ListN.{getD}
-use Rattle.refusal.specs.Number.{Answer, done, refusal, answered}
+use Rattle.refusal.specs.Number.{Answer, done, refusal, answered, verdictAnswer}
 use Rattle.refusal.specs.Judge.{Rule, judge}
 use Rattle.refusal.specs.declared.Refusal.{Refusal}
 use Rattle.refusal.specs.declared.Refusal.the-variants.{Attribute, Repeat}
 use Rattle.refusal.specs.declared.Verdict.{Verdict}
 use Rattle.refusal.specs.declared.Verdict.the-variants.{Done, Refused}
-use Rattle.refusal.proofs.Judged.{after-done, after-refused, before-done}
+use Rattle.refusal.proofs.Judged.{after-done, before-done}
 use Rattle.shape.specs.Shape.{sizesOf}
 use Rattle.shape.specs.Dimensions.{free, earlierPlace, laterPlace}
 use Rattle.shape.specs.declared.Shape.{Shape}
 use Rattle.expression.specs.Expression.{Range, span}
-use Rattle.indexing.specs.Answers.{noMap}
+use Rattle.indexing.specs.Answers.{noMap, mapBy}
 use Rattle.indexing.specs.declared.IndexingMap.{IndexingMap}
 use Rattle.indexing.proofs.Answered.{map-done, map-refused, map-number-zero}
-use Rattle.fold.specs.FoldMap.{foldRules, foldedMap, foldAnswer}
+use Rattle.fold.specs.FoldMap.{foldRules, foldedMap}
 use Rattle.map_builder.specs.Raw.{Raw, encoded, Fits}
 use Rattle.operation_maps.specs.declared.Way.{Way}
 use Rattle.operation_maps.specs.declared.Way.the-variants.{OutputToInput, InputToOutput}
@@ -32,12 +32,13 @@ use Rattle.operation_maps.specs.Axes.{taken, inSide, Meets}
 use Rattle.operation_maps.specs.Selection.{spreadMap}
 use Rattle.operation_maps.specs.Points.{Sends, Points, Means}
 use Rattle.operation_maps.specs.Operation.{Operation, rankOf, listRules, operationRules, outputToInput, inputToOutput, Pairs, foldedAnswer, outputToInputAnswer, inputToOutputAnswer, rawOf, operationAnswer}
-use Rattle.operation_maps.specs.Numbers.{ruleNumber, orElse}
+use Rattle.operation_maps.specs.Numbers.{ruleNumber}
 use Rattle.operation_maps.specs.Trimmed.{trimmed}
 use Rattle.operation_maps.proofs.Handed.{encoded-names, folded-names}
 use Rattle.operation_maps.proofs.Meaning.{right}
 use Rattle.operation_maps.proofs.SelectionNamed.{others-same}
-use Rattle.operation_maps.proofs.Numbered.{number-after, rule-number}
+use Rattle.operation_maps.proofs.Numbered.{rule-number}
+use Rattle.operation_maps.proofs.NeverRefused.{rules-alone}
 use Rattle.operation_maps.proofs.Unread.{rules-same, out-same, in-same}
 
 -- ---- the answer
@@ -47,29 +48,30 @@ unfolding outputToInputAnswer inputToOutputAnswer
 either-way OutputToInput op = refl
 either-way InputToOutput op = refl
 
--- An operation is refused as its own rules say, in their order: 1 of a shape given, 2 of an attribute, 2 of a repeat, 1 of the result's
--- shape; where all are kept, as the fold of its map is; and in no other case.
-pub operation-number : (way : Way) (op : Operation) → operationAnswer way op .number ≡ orElse (ruleNumber op) (foldAnswer (encoded (rawOf way op)) .number)
-unfolding foldAnswer
-operation-number way op =
-    let m = encoded (rawOf way op) in
-    ap (λ (a : Answer IndexingMap). a .number) (either-way way op)
-    ∙ number-after (operationRules op) (foldRules m) (foldedMap m)
-    ∙ ap (λ (n : ℕ). orElse n (foldAnswer m .number)) (rule-number op)
+-- the operation's own rules decide
+by-rules : (way : Way) (op : Operation) → operationAnswer way op ≡ mapBy (operationRules op) (foldedMap (encoded (rawOf way op)))
+by-rules way op = either-way way op ∙ ap (λ (v : Verdict). answered (noMap ∷ []) v (foldedMap (encoded (rawOf way op)) ∷ [])) (rules-alone way op)
 
--- An operation whose rules are kept answers the fold of its map.
-pub operation-folds : (way : Way) (op : Operation) → judge (operationRules op) ≡ Done → operationAnswer way op ≡ foldAnswer (encoded (rawOf way op))
-unfolding foldAnswer
-operation-folds way op e =
-    let m = encoded (rawOf way op) in
-    either-way way op
-    ∙ ap (λ (v : Verdict). answered (noMap ∷ []) v (foldedMap m ∷ [])) (after-done (operationRules op) (foldRules m) e)
+-- An operation is refused as its own rules say, in their order: 1 of a shape given, 2 of an attribute, 2 of a repeat, 1 of the result's
+-- shape; and in no other case.
+pub operation-number : (way : Way) (op : Operation) → operationAnswer way op .number ≡ ruleNumber op
+operation-number way op = ap (λ (a : Answer IndexingMap). a .number) (by-rules way op) ∙ same (judge (operationRules op)) ∙ rule-number op
+  where
+    same : (v : Verdict) → answered (noMap ∷ []) v (foldedMap (encoded (rawOf way op)) ∷ []) .number ≡ verdictAnswer v .number
+    same Done = refl
+    same (Refused r) = refl
+
+-- An operation whose rules are kept is never refused with 7 or 8: it answers its map, folded.
+pub never-refused : (way : Way) (op : Operation) → judge (operationRules op) ≡ Done → operationAnswer way op ≡ done (foldedMap (encoded (rawOf way op)) ∷ [])
+never-refused way op e = by-rules way op ∙ map-done (foldedMap (encoded (rawOf way op))) (operationRules op) e
+
+-- The number is 0 exactly where the operation's rules are kept.
+pub done-is : (way : Way) (op : Operation) → (operationAnswer way op .number ≡ 0) ↔ (judge (operationRules op) ≡ Done)
+done-is way op = rw (by-rules way op) (map-number-zero (foldedMap (encoded (rawOf way op))) (operationRules op))
 
 -- An operation that breaks a rule answers the refusal of the first that it breaks, and a map of zeros.
 pub refused-zeros : (way : Way) (op : Operation) (r : Refusal) → judge (operationRules op) ≡ Refused r → operationAnswer way op ≡ refusal (noMap ∷ []) r
-refused-zeros way op r e =
-    let m = encoded (rawOf way op) in
-    either-way way op ∙ map-refused (foldedMap m) (operationRules op ++ foldRules m) r (after-refused (operationRules op) (foldRules m) r e)
+refused-zeros way op r e = by-rules way op ∙ map-refused (foldedMap (encoded (rawOf way op))) (operationRules op) r e
 
 -- Every other cause of number 2 is judged before a repeat, and carries zeros; a repeat carries its two places.
 pub repeat-last : (l : List ℕ)

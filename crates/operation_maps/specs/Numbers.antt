@@ -1,7 +1,7 @@
 -- The number that an operation's own rules give, 0 where all are kept. Assumes nothing.
 use mathlib.Core.Bool.{Bool, cond, _&&_}
 use mathlib.Core.List.{List}
-use Prim.Native.Nat.{ℕ, zero, suc}
+use Prim.Native.Nat.{ℕ}
 use lib.Dec.{eqb}
 use lib.ListN.{length}
 use Rattle.radix.specs.Radix.{prod}
@@ -24,8 +24,3 @@ ruleNumber (Operation.reduce x l) = listNumber (goodShape x) (inRange (rankOf x)
 ruleNumber (Operation.reduceInit x l) = listNumber (goodShape x) (inRange (rankOf x) l) l
 ruleNumber (Operation.slice x starts limits strides) = cond (goodShape x) (cond (goodCuts (sizesOf x) starts limits strides) 0 2) 1
 ruleNumber (Operation.reshape x y) = cond (goodShape x && goodShape y) (cond (eqb (prod (sizesOf x)) (prod (sizesOf y))) 0 2) 1
-
--- a number, or another where it is 0
-abbrev pub orElse : ℕ → ℕ → ℕ
-orElse zero n = n
-orElse (suc k) n = suc k
