@@ -8,6 +8,7 @@ use layout::LayoutCard;
 use layout::Offset;
 use layout::Padded;
 use layout::Placed;
+use reading::first_of;
 use refusal::Verdict;
 use shape::Element;
 use shape::Numbered;
@@ -25,18 +26,10 @@ pub fn padded(a: Arguments, out: &mut [u8], at: usize) -> usize {
     }
 }
 
-// A point's coordinates, as many as there are places at most.
-fn point_of(items: &[u64], count: usize) -> &[u64] {
-    if count <= items.len() {
-        return &items[0..count];
-    }
-    items
-}
-
 pub fn offset(a: Arguments, out: &mut [u8], at: usize) -> usize {
     let point = a.point;
     let items = point.items;
-    match layout::offset_of_point(a.shape, a.layout, point_of(&items, point.count)) {
+    match layout::offset_of_point(a.shape, a.layout, first_of(&items, point.count)) {
         Placed::At(o) => labelled(out, at, b"offset ", o.0),
         Placed::Refused(r) => refused(out, at, r),
     }
@@ -51,7 +44,7 @@ fn located(out: &mut [u8], at: usize, label: &[u8], shape: Shape, element: Eleme
     match verdict {
         Verdict::Done => {
             let next = text(out, at, label);
-            coordinates(out, next, point_of(&items, point.rank))
+            coordinates(out, next, first_of(&items, point.rank))
         }
         Verdict::Refused(r) => refused(out, at, r),
     }
@@ -94,7 +87,7 @@ pub fn fit(a: Arguments, out: &mut [u8], at: usize) -> usize {
 pub fn number(a: Arguments, out: &mut [u8], at: usize) -> usize {
     let point = a.point;
     let items = point.items;
-    match shape::element_number(a.shape, point_of(&items, point.count)) {
+    match shape::element_number(a.shape, first_of(&items, point.count)) {
         Numbered::At(e) => labelled(out, at, b"element ", e.0),
         Numbered::Refused(r) => refused(out, at, r),
     }

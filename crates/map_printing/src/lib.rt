@@ -1,14 +1,17 @@
 // Printing an indexing map: its head and results on one line, then a line for each item of its domain.
 mod infix;
 
+use indexing::AnsweredMap;
 use indexing::IndexingMap;
 use infix::Trees;
 use infix::put_expression;
 use infix::trees_of;
 use map_reading::place_of;
+use refusal::Verdict;
 use writing::decimal;
 use writing::interval;
 use writing::put;
+use writing::refused;
 use writing::text;
 
 // The next place in the output, and that of the next node.
@@ -191,4 +194,14 @@ pub fn print_map(out: &mut [u8], at: usize, m: IndexingMap) -> usize {
     let node = first.node;
     let is_start = m.dims == 0 && m.ranges == 0;
     put_constraints(out, Position { at: next, node }, m, t, is_start)
+}
+
+// Prints the answer of a call that hands out a map: the map, or the refusal.
+pub fn print_answer(out: &mut [u8], at: usize, answer: AnsweredMap) -> usize {
+    let verdict = answer.verdict;
+    let map = answer.map;
+    match verdict {
+        Verdict::Done => print_map(out, at, map),
+        Verdict::Refused(r) => refused(out, at, r),
+    }
 }

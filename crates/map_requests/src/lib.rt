@@ -1,13 +1,14 @@
 // The requests on indexing maps, and the answers to them.
 mod eval;
-mod folding;
+mod maps;
 mod numbers;
 mod range;
 
 pub use eval::answer_eval;
-pub use folding::answer_fold;
 use map_reading::MapRead;
 use map_reading::read_map;
+pub use maps::answer_compose;
+pub use maps::answer_fold;
 pub use range::answer_range;
 use reading::Cursor;
 use reading::finish;

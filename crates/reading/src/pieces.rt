@@ -25,6 +25,12 @@ pub struct List {
     pub next: Cursor,
 }
 
+// How many numbers there are where a lent buffer holds the first of them.
+pub struct NumbersRead {
+    pub count: usize,
+    pub next: Cursor,
+}
+
 pub struct ShapeRead {
     pub shape: Shape,
     pub next: Cursor,
@@ -63,49 +69,73 @@ pub fn read_bounded(line: &[u8], from: Cursor, most: u64) -> Unsigned {
     n
 }
 
-// The list with the number at a place behind it.
-fn with_item(line: &[u8], list: List, from: Cursor) -> List {
-    let n = read_unsigned(line, from);
-    let at = list.count;
-    let mut items = list.items;
-    if at < 7 {
-        items[at] = n.value;
+pub fn put_at(items: &mut [u64], at: usize, value: u64) {
+    if at < items.len() {
+        items[at] = value;
     }
+}
+
+// With the number at a cursor, which the buffer holds where it has a place for it.
+fn with_item(line: &[u8], read: NumbersRead, from: Cursor, items: &mut [u64]) -> NumbersRead {
+    let n = read_unsigned(line, from);
+    let at = read.count;
+    put_at(items, at, n.value);
     let next = n.next;
-    List {
+    NumbersRead {
         count: one_more(at),
-        items,
         next,
     }
 }
 
 // Numbers with commas between them, or none. A number takes a byte at least, so there are at most
 // as many as the line has bytes.
-fn numbers(line: &[u8], from: Cursor) -> List {
-    let none = List {
+fn numbers(line: &[u8], from: Cursor, items: &mut [u64]) -> NumbersRead {
+    let none = NumbersRead {
         count: 0,
-        items: [0; 7],
         next: from,
     };
     if !is_number_next(line, from) {
         return none;
     }
-    let mut list = with_item(line, none, from);
+    let mut read = with_item(line, none, from, items);
     let mut left = line.len();
-    while left > 0 && is_next(line, list.next, b',') {
-        list = with_item(line, list, expect(line, list.next, b','));
+    while left > 0 && is_next(line, read.next, b',') {
+        let from = expect(line, read.next, b',');
+        read = with_item(line, read, from, items);
         left -= 1;
     }
-    list
+    read
+}
+
+// A list of numbers between two brackets, read into a lent buffer.
+fn read_between(line: &[u8], from: Cursor, left: u8, right: u8, items: &mut [u64]) -> NumbersRead {
+    let read = numbers(line, expect(line, from, left), items);
+    NumbersRead {
+        count: read.count,
+        next: expect(line, read.next, right),
+    }
+}
+
+// A list of dimensions, read into a lent buffer.
+pub fn read_list(line: &[u8], from: Cursor, items: &mut [u64]) -> NumbersRead {
+    read_between(line, from, b'{', b'}', items)
+}
+
+// The first numbers, as many as there are at most.
+pub fn first_of(items: &[u64], count: usize) -> &[u64] {
+    if count <= items.len() {
+        return &items[0..count];
+    }
+    items
 }
 
 // A list of numbers between two brackets.
-pub fn bracketed(line: &[u8], from: Cursor, left: u8, right: u8) -> List {
-    let list = numbers(line, expect(line, from, left));
-    let items = list.items;
-    let next = expect(line, list.next, right);
+fn bracketed(line: &[u8], from: Cursor, left: u8, right: u8) -> List {
+    let mut items = [0u64; 7];
+    let read = read_between(line, from, left, right, &mut items);
+    let next = read.next;
     List {
-        count: list.count,
+        count: read.count,
         items,
         next,
     }
@@ -178,8 +208,8 @@ fn with_tiles(line: &[u8], read: LayoutRead) -> LayoutRead {
 }
 
 pub fn read_layout(line: &[u8], from: Cursor) -> LayoutRead {
-    let list = numbers(line, expect(line, from, b'{'));
-    let items = list.items;
+    let mut items = [0u64; 7];
+    let list = numbers(line, expect(line, from, b'{'), &mut items);
     let next = list.next;
     let minor_to_major = first_six(items);
     let tile_len = [0; 3];

@@ -20,14 +20,16 @@ pub struct Word {
     pub end: usize,
 }
 
-// The kinds of byte of which a token, or the room between two, may have several.
-const SPACE: u8 = 0;
+// The kinds of byte of which a token, or the room between two, may have several. Each is a bit, so that a sum of them is a set.
+const SPACE: u8 = 1;
 
-const LETTER: u8 = 1;
+const LETTER: u8 = 2;
 
-const DIGIT: u8 = 2;
+const DIGIT: u8 = 4;
 
-const OTHER: u8 = 3;
+const HYPHEN: u8 = 8;
+
+const OTHER: u8 = 16;
 
 // The byte at a place, and past the end of the line a line's end.
 pub fn byte_at(line: &[u8], at: usize) -> u8 {
@@ -43,6 +45,7 @@ fn kind_of(byte: u8) -> u8 {
         b' ' => SPACE,
         b'a'..=b'z' | b'A'..=b'Z' => LETTER,
         b'0'..=b'9' => DIGIT,
+        b'-' => HYPHEN,
         _ => OTHER,
     }
 }
@@ -51,11 +54,11 @@ pub fn is_digit(byte: u8) -> bool {
     kind_of(byte) == DIGIT
 }
 
-// Where the run of bytes of that kind ends that starts at a place.
-fn run_end(line: &[u8], at: usize, kind: u8) -> usize {
+// Where the run of bytes of those kinds ends that starts at a place.
+fn run_end(line: &[u8], at: usize, kinds: u8) -> usize {
     let mut i = at;
     while i < line.len() {
-        if kind_of(line[i]) != kind {
+        if kind_of(line[i]) & kinds == 0 {
             return i;
         }
         i += 1;
@@ -79,6 +82,15 @@ pub fn read_word(line: &[u8], at: usize) -> Word {
     Word {
         start,
         end: run_end(line, start, LETTER),
+    }
+}
+
+// The letters and hyphens at the next token.
+fn read_hyphenated(line: &[u8], at: usize) -> Word {
+    let start = skip(line, at);
+    Word {
+        start,
+        end: run_end(line, start, LETTER + HYPHEN),
     }
 }
 
@@ -183,25 +195,38 @@ pub fn expect(line: &[u8], from: Cursor, byte: u8) -> Cursor {
     failed(at)
 }
 
-// Whether the next token is that word.
-pub fn is_word(line: &[u8], from: Cursor, word: &[u8]) -> bool {
-    let w = read_word(line, from.at);
-    from.ok && same(part(line, w.start, w.end), word)
+// Past a token, which has those bytes.
+fn expect_bytes(line: &[u8], from: Cursor, token: Word, bytes: &[u8]) -> Cursor {
+    if !from.ok {
+        return from;
+    }
+    if same(part(line, token.start, token.end), bytes) {
+        return Cursor {
+            at: token.end,
+            ok: true,
+        };
+    }
+    failed(token.start)
 }
 
 // Past the next token, which is that word.
 pub fn expect_word(line: &[u8], from: Cursor, word: &[u8]) -> Cursor {
-    if !from.ok {
-        return from;
-    }
-    let w = read_word(line, from.at);
-    if same(part(line, w.start, w.end), word) {
-        return Cursor {
-            at: w.end,
-            ok: true,
-        };
-    }
-    failed(w.start)
+    expect_bytes(line, from, read_word(line, from.at), word)
+}
+
+// Past the next token, which is those letters and hyphens.
+pub fn expect_hyphenated(line: &[u8], from: Cursor, name: &[u8]) -> Cursor {
+    expect_bytes(line, from, read_hyphenated(line, from.at), name)
+}
+
+// Whether the next token is that word.
+pub fn is_word(line: &[u8], from: Cursor, word: &[u8]) -> bool {
+    expect_word(line, from, word).ok
+}
+
+// Whether the next token is those letters and hyphens.
+pub fn is_hyphenated(line: &[u8], from: Cursor, name: &[u8]) -> bool {
+    expect_hyphenated(line, from, name).ok
 }
 
 // Whether the request goes on.

@@ -1,14 +1,16 @@
--- `pieces::numbers` is safe and ends. The measure is the number of turns that are left.
+-- `pieces::numbers` is safe and ends. The buffer keeps its length, and the measure is the number of turns that are left.
 -- Assumes nothing.
+use mathlib.Core.Path.{_≡_}
 use borrow.Author.Needs.{needs}
+use lib.ListN.{length}
 use Rattle.reading.proofs.pieces.numbers.Statement.{statement}
 use Rattle.reading.proofs.pieces.numbers.Tie as tie
 
 abbrev Inv-loop : tie.InvT-loop
-Inv-loop line list₀ left₀ list left = Unit {0}
+Inv-loop line items₀ read₀ left₀ items read left = length items ≡ length items₀
 
 abbrev μ-loop : tie.MeasureT-loop
-μ-loop line list₀ left₀ list left = left
+μ-loop line items₀ read₀ left₀ items read left = left
 
 is-number-next-requires : tie.Need-is-number-next-requires Inv-loop μ-loop
 is-number-next-requires c κs = search needs
@@ -40,8 +42,14 @@ loop-less c = search needs
 loop-again : tie.Need-loop-again Inv-loop μ-loop
 loop-again c = search needs
 
+same-length : tie.Need-same-length Inv-loop μ-loop
+same-length c = search needs
+
 returns-2 : tie.Need-returns-2 Inv-loop μ-loop
 returns-2 c = search needs
+
+same-length-2 : tie.Need-same-length-2 Inv-loop μ-loop
+same-length-2 c = search needs
 
 returns-3 : tie.Need-returns-3 Inv-loop μ-loop
 returns-3 c = search needs
@@ -62,5 +70,7 @@ numbers-spec =
     sub-left
     loop-less
     loop-again
+    same-length
     returns-2
+    same-length-2
     returns-3)

@@ -7,10 +7,10 @@ use Rattle.reading.proofs.token.run_end.Statement.{statement}
 use Rattle.reading.proofs.token.run_end.Tie as tie
 
 abbrev Inv-loop : tie.InvT-loop
-Inv-loop line at kind i₀ i = Unit {0}
+Inv-loop line at kinds i₀ i = Unit {0}
 
 abbrev μ-loop : tie.MeasureT-loop
-μ-loop line at kind i₀ i = length line - i
+μ-loop line at kinds i₀ i = length line - i
 
 loop-holds : tie.Need-loop-holds Inv-loop μ-loop
 loop-holds c = search needs
