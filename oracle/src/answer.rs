@@ -1,6 +1,7 @@
 //! Answers: from the bytes of a whole input to the answer blocks of its requests.
 
 use crate::buffer::{load, pack, store, unpack};
+use crate::compose::compose;
 use crate::fold::fold;
 use crate::grid::grid;
 use crate::layout::{padded_size, Layout};
@@ -71,8 +72,11 @@ fn answer_request(request: &Request) -> String {
         }
         Request::Range(map) => ranges_answer(map),
         Request::Fold(map) => fold(map).map(|folded| map_text(&folded)),
+        Request::Compose { first, second } => {
+            compose(first, second).map(|composed| map_text(&composed))
+        }
     };
-    answer.unwrap_or_else(|refusal| format!("refused {}", refusal.number()))
+    answer.unwrap_or_else(Refusal::text)
 }
 
 fn answer_question(

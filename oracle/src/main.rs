@@ -5,6 +5,7 @@ mod brute;
 mod brute_maps;
 mod brute_routes;
 mod buffer;
+mod compose;
 mod damage;
 mod expression_reader;
 mod fold;
@@ -19,12 +20,19 @@ mod map_rule;
 mod map_text;
 mod map_value;
 mod offset;
+mod operation;
+mod operation_map;
+mod operation_rule;
 mod pad_reshape_transpose;
 mod random;
+mod random_compose_lines;
 mod random_expressions;
 mod random_kinds;
 mod random_map_lines;
 mod random_maps;
+mod random_operations;
+mod random_pair_limits;
+mod random_pairs;
 mod random_pieces;
 mod random_requests;
 mod random_route_breaks;
@@ -49,6 +57,8 @@ mod tests_routes;
 mod token;
 mod vectors;
 mod vectors_buffers;
+mod vectors_composition_counts;
+mod vectors_compositions;
 mod vectors_documents;
 mod vectors_grids;
 mod vectors_layouts;
@@ -72,7 +82,7 @@ use std::process::ExitCode;
 use random_kinds::{random_lines, Kind};
 
 const USAGE: &str =
-    "usage: oracle answer | random SEED N [layout | route | map] | vectors [DIR] | brute";
+    "usage: oracle answer | random SEED N [layout | route | map | compose] | vectors [DIR] | brute";
 
 /// Where `vectors` writes when no directory is given.
 const VECTORS_DIRECTORY: &str = "crates/zungatewi";

@@ -35,6 +35,10 @@ pub enum Request {
     },
     Range(Map),
     Fold(Map),
+    Compose {
+        first: Map,
+        second: Map,
+    },
 }
 
 /// What is asked about a shape with a layout.
@@ -88,6 +92,7 @@ pub fn read_request(line: &[u8]) -> Result<Request, Unreadable> {
         b"eval" => eval(&mut reader)?,
         b"range" => Request::Range(read_map(&mut reader)?),
         b"fold" => Request::Fold(read_map(&mut reader)?),
+        b"compose" => compose(&mut reader)?,
         word if is_placed(word) => placed(word, &mut reader)?,
         _ => return Err(Unreadable { column }),
     };
@@ -132,6 +137,14 @@ fn eval(reader: &mut Reader) -> Result<Request, Unreadable> {
     }
     let point = MapPoint { dimensions, ranges };
     Ok(Request::Eval { map, point })
+}
+
+/// Reads MAP ; MAP.
+fn compose(reader: &mut Reader) -> Result<Request, Unreadable> {
+    let first = read_map(reader)?;
+    reader.symbol(b';')?;
+    let second = read_map(reader)?;
+    Ok(Request::Compose { first, second })
 }
 
 fn is_placed(word: &[u8]) -> bool {
