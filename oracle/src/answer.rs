@@ -10,6 +10,7 @@ use crate::map_range::result_ranges;
 use crate::map_text::{interval_text, map_text};
 use crate::map_value::evaluate;
 use crate::offset::{offset_of_point, point_at_offset};
+use crate::operation_map::operation_map;
 use crate::refusal::Refusal;
 use crate::request::{read_request, Question, Request};
 use crate::route::{best_plan, Plan};
@@ -74,6 +75,9 @@ fn answer_request(request: &Request) -> String {
         Request::Fold(map) => fold(map).map(|folded| map_text(&folded)),
         Request::Compose { first, second } => {
             compose(first, second).map(|composed| map_text(&composed))
+        }
+        Request::Operation { operation, way } => {
+            operation_map(operation, *way).map(|map| map_text(&map))
         }
     };
     answer.unwrap_or_else(Refusal::text)

@@ -30,6 +30,8 @@ mod random_expressions;
 mod random_kinds;
 mod random_map_lines;
 mod random_maps;
+mod random_operation_breaks;
+mod random_operation_lines;
 mod random_operations;
 mod random_pair_limits;
 mod random_pairs;
@@ -43,6 +45,7 @@ mod reader;
 mod reader_maps;
 mod refusal;
 mod request;
+mod request_operations;
 mod route;
 mod route_by_trial;
 mod shape;
@@ -68,6 +71,9 @@ mod vectors_map_counts;
 mod vectors_map_rules;
 mod vectors_map_unreadable;
 mod vectors_maps;
+mod vectors_operation_rules;
+mod vectors_operation_unreadable;
+mod vectors_operations;
 mod vectors_order;
 mod vectors_places;
 mod vectors_routes;
@@ -82,7 +88,7 @@ use std::process::ExitCode;
 use random_kinds::{random_lines, Kind};
 
 const USAGE: &str =
-    "usage: oracle answer | random SEED N [layout | route | map | compose] | vectors [DIR] | brute";
+    "usage: oracle answer | random SEED N [layout | route | map | compose | operation] | vectors [DIR] | brute";
 
 /// Where `vectors` writes when no directory is given.
 const VECTORS_DIRECTORY: &str = "crates/zungatewi";

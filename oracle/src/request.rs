@@ -4,7 +4,9 @@ use crate::layout::Layout;
 use crate::map::Map;
 use crate::map_reader::read_map;
 use crate::map_value::MapPoint;
+use crate::operation::{Operation, Way};
 use crate::reader::{Reader, Unreadable};
+use crate::request_operations::{is_operation, read_operation};
 use crate::route::Route;
 use crate::shape::Shape;
 
@@ -38,6 +40,10 @@ pub enum Request {
     Compose {
         first: Map,
         second: Map,
+    },
+    Operation {
+        operation: Operation,
+        way: Way,
     },
 }
 
@@ -93,6 +99,7 @@ pub fn read_request(line: &[u8]) -> Result<Request, Unreadable> {
         b"range" => Request::Range(read_map(&mut reader)?),
         b"fold" => Request::Fold(read_map(&mut reader)?),
         b"compose" => compose(&mut reader)?,
+        word if is_operation(word) => read_operation(word, &mut reader)?,
         word if is_placed(word) => placed(word, &mut reader)?,
         _ => return Err(Unreadable { column }),
     };

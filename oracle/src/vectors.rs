@@ -18,6 +18,9 @@ use crate::vectors_map_counts::map_counts;
 use crate::vectors_map_rules::MAP_RULES;
 use crate::vectors_map_unreadable::{long_maps, MAP_TOKENS};
 use crate::vectors_maps::MAPS;
+use crate::vectors_operation_rules::{repeats, OPERATION_RULES};
+use crate::vectors_operation_unreadable::{long_operations, OPERATION_TOKENS};
+use crate::vectors_operations::OPERATIONS;
 use crate::vectors_order::ORDER;
 use crate::vectors_places::PLACES;
 use crate::vectors_routes::{ROUTES, UNREADABLE_ROUTES};
@@ -39,6 +42,7 @@ const RANDOM_REQUESTS: u64 = 3000;
 const RANDOM_ROUTES: u64 = 2000;
 const RANDOM_MAPS: u64 = 4000;
 const RANDOM_COMPOSITIONS: u64 = 3000;
+const RANDOM_OPERATIONS: u64 = 4000;
 
 /// Writes both files into a directory.
 pub fn write_vectors(directory: &str) -> io::Result<()> {
@@ -56,6 +60,7 @@ fn requests() -> Vec<u8> {
     routes(&mut bytes);
     maps(&mut bytes);
     compositions(&mut bytes);
+    operations(&mut bytes);
     bytes.extend(b"# a last line that ends at the end of the input\n");
     bytes.extend(b"offset [3,5] {1,0:T(2,2)} (2,3)");
     bytes
@@ -106,6 +111,19 @@ fn compositions(bytes: &mut Vec<u8>) {
     composition_counts(&mut text);
     bytes.extend(text.bytes());
     random_group(bytes, "compositions", RANDOM_COMPOSITIONS, Kind::Compose);
+}
+
+/// The requests about operations.
+fn operations(bytes: &mut Vec<u8>) {
+    let mut text = String::new();
+    let tables = OPERATIONS.iter().chain(OPERATION_RULES);
+    for (title, lines) in tables.chain(OPERATION_TOKENS) {
+        group(&mut text, title, lines.iter());
+    }
+    repeats(&mut text);
+    long_operations(&mut text);
+    bytes.extend(text.bytes());
+    random_group(bytes, "operations", RANDOM_OPERATIONS, Kind::Operation);
 }
 
 /// Adds a comment, and random lines of one kind.
