@@ -2,7 +2,9 @@
 
 mod answer;
 mod brute;
+mod brute_compose;
 mod brute_maps;
+mod brute_operations;
 mod brute_routes;
 mod buffer;
 mod compose;
@@ -22,6 +24,7 @@ mod map_value;
 mod offset;
 mod operation;
 mod operation_map;
+mod operation_pairs;
 mod operation_rule;
 mod pad_reshape_transpose;
 mod random;
@@ -51,6 +54,7 @@ mod route_by_trial;
 mod shape;
 mod share;
 mod small_cases;
+mod small_operations;
 #[cfg(test)]
 mod tests;
 #[cfg(test)]

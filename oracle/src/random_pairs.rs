@@ -85,7 +85,7 @@ pub fn chain_pair(random: &mut Random) -> Pair {
 }
 
 /// Maps of 2 to 5 operations, each from the sizes that the one before leads to.
-fn chain(random: &mut Random) -> Vec<Map> {
+pub fn chain(random: &mut Random) -> Vec<Map> {
     let way = random.pick(&[Way::OutToIn, Way::OutToIn, Way::InToOut]);
     let length = random.pick(&[2, 2, 2, 3, 3, 4, 5]);
     let mut sizes = chain_sizes(random);
