@@ -23,6 +23,7 @@ mod map_text;
 mod map_value;
 mod offset;
 mod operation;
+mod operation_draft;
 mod operation_map;
 mod operation_pairs;
 mod operation_rule;
@@ -58,7 +59,11 @@ mod small_operations;
 #[cfg(test)]
 mod tests;
 #[cfg(test)]
+mod tests_compose;
+#[cfg(test)]
 mod tests_maps;
+#[cfg(test)]
+mod tests_operations;
 #[cfg(test)]
 mod tests_routes;
 mod token;

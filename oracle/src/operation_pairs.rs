@@ -5,7 +5,7 @@ use crate::shape::linear_index;
 
 /// Whether a point of the input and a point with the output's rank belong together.
 pub fn belong(operation: &Operation, input: &[u64], output: &[u64]) -> bool {
-    let rank = input.len();
+    let mut places = 0..input.len();
     match operation {
         Operation::Elementwise { .. } => input == output,
         Operation::Broadcast {
@@ -14,49 +14,52 @@ pub fn belong(operation: &Operation, input: &[u64], output: &[u64]) -> bool {
             ..
         } => {
             let coordinate = |k: usize| output[list[k] as usize];
-            is_inside(output, &table.sizes) && (0..rank).all(|k| input[k] == coordinate(k))
+            is_inside(output, &table.sizes) && places.all(|k| input[k] == coordinate(k))
         }
-        Operation::Transpose { list, .. } => {
-            (0..rank).all(|k| output[k] == input[list[k] as usize])
-        }
-        Operation::Reverse { input: table, list } => (0..rank).all(|k| {
+        Operation::Transpose { list, .. } => places.all(|k| output[k] == input[list[k] as usize]),
+        Operation::Reverse { input: table, list } => places.all(|k| {
             if list.contains(&(k as u64)) {
                 input[k] + output[k] + 1 == table.sizes[k]
             } else {
                 input[k] == output[k]
             }
         }),
-        Operation::Concatenate {
-            dimension,
-            operand,
-            operands,
-        } => {
-            let joined = *dimension as usize;
-            // The places of the joined dimension, one operand's behind another's.
-            let mut places = Vec::new();
-            for (number, shape) in operands.iter().enumerate() {
-                places.extend((0..shape.sizes[joined]).map(|place| (number as u64, place)));
-            }
-            let here = places.get(output[joined] as usize);
-            here == Some(&(*operand, input[joined]))
-                && (0..rank).all(|k| k == joined || input[k] == output[k])
-        }
+        Operation::Concatenate { .. } => belong_in_a_join(operation, input, output),
         Operation::Reduce { list, .. } => without(input, list) == output,
         Operation::ReduceInit { input: table, list } => {
             is_inside(output, &without(&table.sizes, list))
         }
-        Operation::Slice { cuts, .. } => (0..rank).all(|k| {
-            let cut = cuts[k];
-            input[k] == output[k] * cut.stride + cut.start && input[k] < cut.limit
+        Operation::Slice { cuts, .. } => places.all(|k| {
+            input[k] == output[k] * cuts[k].stride + cuts[k].start && input[k] < cuts[k].limit
         }),
         Operation::Reshape {
             input: table,
             output: other,
         } => {
-            is_inside(output, &other.sizes)
-                && linear_index(input, &table.sizes) == linear_index(output, &other.sizes)
+            let number = linear_index(input, &table.sizes);
+            is_inside(output, &other.sizes) && number == linear_index(output, &other.sizes)
         }
     }
+}
+
+/// Concatenate: the places of the joined dimension stand one operand's behind another's.
+fn belong_in_a_join(operation: &Operation, input: &[u64], output: &[u64]) -> bool {
+    let Operation::Concatenate {
+        dimension,
+        operand,
+        operands,
+    } = operation
+    else {
+        return false;
+    };
+    let joined = *dimension as usize;
+    let mut places = Vec::new();
+    for (number, shape) in operands.iter().enumerate() {
+        places.extend((0..shape.sizes[joined]).map(|place| (number as u64, place)));
+    }
+    let here = places.get(output[joined] as usize);
+    let mut others = (0..input.len()).filter(|k| *k != joined);
+    here == Some(&(*operand, input[joined])) && others.all(|k| input[k] == output[k])
 }
 
 /// The sizes of the input that the operation's maps speak of.

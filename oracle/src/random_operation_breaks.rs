@@ -1,7 +1,8 @@
 //! Random operations that break a rule: shapes, attributes of every kind, and lists that repeat or are too long.
 
+use crate::operation_draft::{has_list, OperationDraft};
 use crate::random::Random;
-use crate::random_operations::{has_list, shuffled, OperationDraft};
+use crate::random_operations::shuffled;
 
 const TOP_SIZE: i64 = 1 << 20;
 

@@ -1,11 +1,12 @@
 //! Random operation lines: every operation and way, with and without broken rules.
 
+use crate::operation_draft::OperationDraft;
 use crate::random::Random;
 use crate::random_map_lines::written;
 use crate::random_operation_breaks::{
     break_attribute, break_shape, lengthen_list, limit_operands, repeat_draft,
 };
-use crate::random_operations::{good_draft, OperationDraft, WORDS};
+use crate::random_operations::{good_draft, WORDS};
 use crate::random_pieces::{large_product, small_sizes, unsigned};
 use crate::shape::{element_count, Shape};
 

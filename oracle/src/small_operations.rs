@@ -69,24 +69,29 @@ pub fn lists(rank: usize) -> Vec<Vec<u64>> {
 /// One to four operands of rank 1 to 3, joined in every dimension.
 fn concatenations(operations: &mut Vec<Operation>) {
     for others in [vec![], vec![2], vec![3, 2]] {
-        for count in 1..=4 {
-            for joined in tuples(&[1, 2, 4], count) {
-                for dimension in 0..=others.len() {
-                    for operand in 0..count {
-                        let shape = |size: &u64| {
-                            let mut sizes = others.clone();
-                            sizes.insert(dimension, *size);
-                            Shape { sizes }
-                        };
-                        operations.push(Operation::Concatenate {
-                            dimension: dimension as u64,
-                            operand: operand as u64,
-                            operands: joined.iter().map(shape).collect(),
-                        });
-                    }
+        for dimension in 0..=others.len() {
+            for count in 1..=4 {
+                for joined in tuples(&[1, 2, 4], count) {
+                    joins(operations, &others, dimension, &joined);
                 }
             }
         }
+    }
+}
+
+/// The operands with those sizes in the joined dimension, each of them asked for.
+fn joins(operations: &mut Vec<Operation>, others: &[u64], dimension: usize, joined: &[u64]) {
+    let shape = |size: &u64| {
+        let mut sizes = others.to_vec();
+        sizes.insert(dimension, *size);
+        Shape { sizes }
+    };
+    for operand in 0..joined.len() {
+        operations.push(Operation::Concatenate {
+            dimension: dimension as u64,
+            operand: operand as u64,
+            operands: joined.iter().map(shape).collect(),
+        });
     }
 }
 

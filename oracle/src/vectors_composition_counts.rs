@@ -140,53 +140,36 @@ fn nodes(text: &mut String) {
 /// Maps that name more than a record holds: 2 of what is held, then 6 by the counts as written, then 7.
 fn more_than_a_record_holds(text: &mut String) {
     let line = |results: usize, dimensions: usize, own: &str, others: &str| {
-        let f = map(
-            1,
-            0,
-            &[vec!["d0"; results - 1], vec![own]].concat().join(", "),
-            &[],
+        let mut trees = vec!["d0"; results];
+        trees[results - 1] = own;
+        let (f, g) = (
+            map(1, 0, &trees.join(", "), &[]),
+            map(dimensions, 0, others, &[]),
         );
-        let g = map(dimensions, 0, others, &[]);
         format!("compose {f} ; {g}")
     };
-    let lines = [
-        line(9, 9, "d0", "d0"),
-        line(9, 9, "d5", "d0"),
-        line(9, 9, "d0", "d8"),
-        line(9, 9, "d0", "d9"),
-        line(9, 8, "d0", "d0"),
-        line(9, 8, "d5", "d0"),
-        line(8, 9, "d0", "d0"),
-        line(8, 9, "d5", "d0"),
-        line(8, 8, "d0", "d7"),
-        line(9, 10, "d0", "d0"),
-        line(300, 300, "d0", "d0"),
-        line(300, 299, "d0", "d0"),
-        line(300, 44, "d0", "d0"),
-        line(257, 1, "d0", "d0"),
-        line(9, 9, "d0", &vec!["d0"; 129].join(" + ")),
-        line(
-            9,
-            9,
-            "d0",
-            &format!("{}, d5 + d12", vec!["d0"; 128].join(" + ")),
-        ),
-        line(
-            8,
-            8,
-            "d0",
-            &format!("{}, d5 + d12", vec!["d0"; 128].join(" + ")),
-        ),
-        line(
-            8,
-            7,
-            "d0",
-            &format!("{}, d5 + d12", vec!["d0"; 128].join(" + ")),
-        ),
+    let cut_off = format!("{}, d5 + d12", vec!["d0"; 128].join(" + "));
+    let cases = [
+        (9, 9, "d0", "d0"),
+        (9, 9, "d5", "d0"),
+        (9, 9, "d0", "d8"),
+        (9, 9, "d0", "d9"),
+        (9, 8, "d0", "d0"),
+        (9, 8, "d5", "d0"),
+        (8, 9, "d0", "d0"),
+        (8, 9, "d5", "d0"),
+        (8, 8, "d0", "d7"),
+        (9, 10, "d0", "d0"),
+        (300, 300, "d0", "d0"),
+        (300, 299, "d0", "d0"),
+        (300, 44, "d0", "d0"),
+        (257, 1, "d0", "d0"),
+        (9, 9, "d0", &cut_off),
+        (8, 8, "d0", &cut_off),
+        (8, 7, "d0", &cut_off),
     ];
-    group(
-        text,
-        "composing: maps that name more than a record holds",
-        lines.iter(),
-    );
+    let lines =
+        cases.map(|(results, dimensions, own, others)| line(results, dimensions, own, others));
+    let title = "composing: maps that name more than a record holds";
+    group(text, title, lines.iter());
 }
