@@ -96,7 +96,7 @@ fn cut_keeps(cut: &Cut, size: u64) -> bool {
 }
 
 /// The list of dimensions in which a repeat is searched.
-fn list(operation: &Operation) -> Option<&Vec<u64>> {
+fn list(operation: &Operation) -> Option<&[u64]> {
     match operation {
         Operation::Broadcast { list, .. }
         | Operation::Transpose { list, .. }
@@ -108,7 +108,7 @@ fn list(operation: &Operation) -> Option<&Vec<u64>> {
 }
 
 /// The places of the first repeat: the later place from the front, and the earlier one.
-fn first_repeat(list: &Vec<u64>) -> Option<(usize, usize)> {
+fn first_repeat(list: &[u64]) -> Option<(usize, usize)> {
     for later in 0..list.len() {
         for earlier in 0..later {
             if list[earlier] == list[later] {
