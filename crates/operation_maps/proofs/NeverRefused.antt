@@ -6,7 +6,7 @@ use Prim.Native.Nat.{ℕ, _<_, _≤_}
 use native.Mathlib.Omega.{arith}
 use borrow.Author.Tests.{leb-true, ltb-true}
 use lib.Dec.{leb, ltb, eqb}
-use lib.ListN.{length, getD, length-take}
+use lib.ListN.{length, getD}
 use Rattle.refusal.specs.Judge.{judge}
 use Rattle.refusal.specs.declared.Refusal.the-variants.{ShapeLimits, Attribute}
 use Rattle.refusal.specs.declared.Verdict.{Verdict}
@@ -16,7 +16,6 @@ use Rattle.radix.specs.Radix.{maxSize, Bounded}
 use Rattle.radix.proofs.Tests.{and-left, and-right, every-at}
 use Rattle.shape.specs.Shape.{maxRank, sizesOf, goodShape}
 use Rattle.shape.specs.Dimensions.{inRange}
-use Rattle.shape.specs.declared.Shape.{Shape}
 use Rattle.fold.specs.FoldMap.{foldRules}
 use Rattle.operation_maps.specs.declared.Axis.{Axis}
 use Rattle.operation_maps.specs.declared.Axis.the-variants.{Keep, Flip, Cut, Shift}
@@ -25,10 +24,10 @@ use Rattle.operation_maps.specs.declared.Way.the-variants.{OutputToInput
 use Rattle.map_builder.specs.Raw.{encoded}
 use Rattle.operation_maps.specs.Lists.{select, isListed}
 use Rattle.operation_maps.specs.Selection.{selectMap, spreadMap, Choice}
-use Rattle.operation_maps.specs.Operation.{Operation, goodOperands, goodJoin, rankOf, keptDims, operands, operandSizes, noShape, joinedBefore, joinedSizes, goodSizes, goodCut, goodCuts, goodBroadcast, operationRules, outputToInput, inputToOutput, rawOf}
+use Rattle.operation_maps.specs.Operation.{Operation, rankOf, keptDims, operandSizes, joinedBefore, maxStride, goodCut, goodCuts, goodBroadcast, operationRules, outputToInput, inputToOutput, rawOf}
 use Rattle.operation_maps.proofs.SelectionNamed.{select-at, select-length, others-choice}
 use Rattle.operation_maps.proofs.Fitted.{choice-few}
-use Rattle.operation_maps.proofs.Meaning.{Limited, limited-of, limited-positive, choice-of, no-choice, list-good, joins-of, joined-up, joined-small, right}
+use Rattle.operation_maps.proofs.Meaning.{Limited, limited-of, limited-positive, choice-of, no-choice, list-good, operand, right}
 use Rattle.operation_maps.proofs.Limits.{Keeps, not-refused}
 use Rattle.operation_maps.proofs.LimitsSelection.{select-keeps, spread-keeps}
 use Rattle.operation_maps.proofs.LimitsReshape.{reshape-keeps}
@@ -60,7 +59,7 @@ module _ (ns : List ℕ) (g : Limited ns) where
       let e1 = and-right (ltb start lim) _ e in
       let b = leb-true lim n (and-left (leb lim n) _ e1) in
       let e2 = and-right (leb lim n) _ e1 in
-      (a, (omega arith, (leb-true 1 stride (and-left (leb 1 stride) _ e2), leb-true stride maxSize (and-right (leb 1 stride) _ e2))))
+      (a, (omega arith, (leb-true 1 stride (and-left (leb 1 stride) _ e2), leb-true stride maxStride (and-right (leb 1 stride) _ e2))))
 
   sliced-sized : (starts limits strides : List ℕ) → goodCuts ns starts limits strides ≡ true
       → (k : ℕ) → k < length ns → Sized (Cut (getD starts k 0) (getD limits k 0) (getD strides k 0))
@@ -72,23 +71,6 @@ module _ (ns : List ℕ) (g : Limited ns) where
   -- the map to the smaller point and the one to the larger
   selects : (l : List ℕ) → Choice l (length ns) → Keeps (selectMap l ns) × Keeps (spreadMap l ns)
   selects l c = (select-keeps l ns (g .few) (sized ns g) c, spread-keeps l ns (g .few) (sized ns g) c)
-
--- the operand asked for, and what stands before it
-record Operand (count : ℕ) (held : List Shape) (dim j : ℕ) : Type 0 where
-  sizes : Limited (operandSizes count held j)
-  by : joinedBefore count held dim j ≤ maxSize
-
-operand : (count : ℕ) (held : List Shape) (dim j : ℕ) → judge (operationRules (Operation.concatenate count held dim j)) ≡ Done → Operand count held dim j
-operand count held dim j e =
-    let e1 = rest (goodOperands count held) ShapeLimits _ e in
-    let t = joins-of count held dim j (kept (goodJoin count held dim j) Attribute _ e1) in
-    let z = kept (goodSizes (joinedSizes count held dim)) ShapeLimits _ (rest (goodJoin count held dim j) Attribute _ e1) in
-    let l : j < length (operands count held) = omega (arith, t .held-all, t .asked, length-take count held) in
-    record {
-      sizes = limited-of (getD (operands count held) j noShape)
-          (every-at (λ (k : ℕ). goodShape (getD (operands count held) k noShape)) (length (operands count held)) (kept (goodOperands count held) ShapeLimits _ e) j l);
-      by = omega (arith, joined-up count held dim j (omega (arith, t .asked)), joined-small count held dim (t .dimension) z);
-    }
 
 -- ---- one operation after another
 
