@@ -8,7 +8,7 @@ use borrow.Author.Tests.{le-leb, lt-leb}
 use lib.Dec.{leb}
 use lib.IntN.{ℤ}
 use lib.ListN.{length, length-append}
-use Rattle.radix.proofs.Tests.{and-true}
+use Rattle.radix.proofs.Tests.{and-true, and-false}
 use Rattle.refusal.specs.Number.{answered}
 use Rattle.refusal.specs.Judge.{rule, judge}
 use Rattle.refusal.specs.declared.Refusal.{Refusal}
@@ -25,7 +25,6 @@ use Rattle.folding.specs.Map.{Constraint, constraintTrees}
 use Rattle.encoding.specs.Written.{counted}
 use Rattle.encoding.specs.Encode.{filled, nodesOf, encodeMap}
 use Rattle.encoding.proofs.Encoded.{nodes-append}
-use Rattle.radix.proofs.Tests.{and-false}
 use Rattle.indexing.specs.Answers.{noMap, mapAnswer, answeredMap}
 use Rattle.encoding.proofs.KeptBounds.{record-of-same}
 use Rattle.indexing.proofs.Answered.{verdict-answer, map-refused}

@@ -9,8 +9,7 @@ use Rattle.integer.specs.Floor.{floorDiv}
 use Rattle.expression.specs.Expression.{Kind, Op, Expr, Range, span, eqℤ, addRange, mulRange, opRange, isSmall, smallRange}
 use Rattle.expression.proofs.Within.{Proper}
 use Rattle.folding.specs.Sum.{Atom, Sum, atomRange, sumRange}
-use Rattle.folding.specs.Fold.{Step, is, again, addSums, scaleSum, partR, oneQuotient, quotientOf}
-use Rattle.folding.specs.Fold.{rule1, rule2, rules2, divisorsTried, applyRule, applyRules, fuelFor, foldSum, sumTree}
+use Rattle.folding.specs.Fold.{Step, is, again, addSums, scaleSum, partR, oneQuotient, quotientOf, rule1, rule2, rules2, divisorsTried, applyRule, applyRules, fuelFor, foldSum, sumTree}
 use Rattle.folding.specs.Working.{smallFrom, smallSum, smallSums, restsTried, sumsFormed, treeSums, smallWorking}
 use Rattle.folding.specs.Map.{Constraint, constraintTrees, foldTree, foldResults, isInside, foldConstraints, smallTrees}
 use Rattle.folding.proofs.Atoms.{outcome, EveryA, EveryS, EveryStep, Anything, every-add, every-scale, every-partR, every-step, every-run, any-starts, variables-fold}

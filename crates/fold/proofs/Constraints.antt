@@ -8,7 +8,7 @@ use native.Mathlib.Numerals.{add-one}
 use lib.IntN.{ℤ, pos, _+ℤ_, +ℤ-idl}
 use lib.ListN.{length, getD, drop, set, length-append, length-map}
 use lib.Signed.{leZ}
-use Rattle.expression.specs.Expression.{Kind, Expr, Range, span}
+use Rattle.expression.specs.Expression.{Kind, Expr, Range, span, nodeCount}
 use Rattle.expression.specs.Node.{maxNodes}
 use Rattle.indexing.specs.Map.{maxConstraints}
 use Rattle.indexing.specs.declared.IndexingMap.{IndexingMap}
@@ -19,7 +19,6 @@ use Rattle.folding.specs.Map.{Constraint, constraintTrees, foldTree, foldConstr
 use Rattle.folding.proofs.Judged.{fold-small}
 use Rattle.words.specs.Contracts.{Reckons}
 use Rattle.words.proofs.Tests.{clash}
-use Rattle.expression.specs.Expression.{nodeCount}
 use Rattle.encoding.specs.Postfix.{postfix}
 use Rattle.encoding.specs.Written.{Room, Written, EmitsSum}
 use Rattle.encoding.specs.Encode.{filled, nodesOf, Holds, ConstraintZeros}

@@ -9,7 +9,7 @@ use mathlib.Core.Logic.{⊎-elim}
 use lib.IntN.{ℤ}
 use lib.ListN.{length, drop, set, length-map}
 use Rattle.radix.proofs.Tests.{and-true, and-false}
-use Rattle.expression.specs.Expression.{Kind, Expr, Range}
+use Rattle.expression.specs.Expression.{Kind, Expr, Range, nodeCount}
 use Rattle.expression.specs.Node.{maxNodes}
 use Rattle.indexing.specs.Map.{maxResults}
 use Rattle.indexing.specs.declared.IndexingMap.{IndexingMap}
@@ -18,7 +18,6 @@ use Rattle.folding.specs.Working.{smallWorking}
 use Rattle.folding.specs.Map.{foldTree, foldResults, smallTrees}
 use Rattle.words.specs.Words.{sumWords}
 use Rattle.words.proofs.Tests.{clash}
-use Rattle.expression.specs.Expression.{nodeCount}
 use Rattle.encoding.specs.Written.{counted, Room, EmitsSum}
 use Rattle.encoding.specs.Encode.{filled, nodesOf, Holds, Zeros}
 use Rattle.encoding.proofs.Lists.{map-append}

@@ -11,9 +11,8 @@ use Rattle.refusal.specs.declared.Refusal.{Refusal}
 use Rattle.refusal.specs.declared.Verdict.the-variants.{Done, Refused}
 use Rattle.expression.specs.Node.{maxVariables}
 use Rattle.indexing.specs.Map.{valueAt, inBounds, Domain, SameAt, Alike, goodParts, goodCounts, goodRanges}
-use Rattle.indexing.specs.Answers.{mapRules, resultValues}
+use Rattle.indexing.specs.Answers.{mapRules, resultValues, noMap}
 use Rattle.indexing.specs.declared.IndexingMap.{IndexingMap}
-use Rattle.indexing.specs.Answers.{noMap}
 use Rattle.indexing.proofs.Answered.{map-refused, map-number-zero}
 use Rattle.encoding.specs.Trees.{resultTrees, mapConstraints}
 use Rattle.fold.specs.FoldMap.{foldedResults, foldedConstraints, foldedMap, smallFold, fewNodes, foldRules, foldAnswer}

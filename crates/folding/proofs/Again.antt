@@ -8,8 +8,7 @@ use lib.IntN.{ℤ, pos, negsuc, _+ℤ_, _*ℤ_, +ℤ-idl, *ℤ-comm, *ℤ-zero}
 use Rattle.expression.specs.Expression.{Kind, Op, Expr, Range, eqℤ}
 use Rattle.expression.proofs.Within.{eqℤ-eq}
 use Rattle.folding.specs.Sum.{Atom, Sum, sumSize}
-use Rattle.folding.specs.Fold.{consTerm, placeTerm, insertTerm, addConstant, addSums, scaleSum, stays, applyRule, applyRules, fuelFor, foldSum}
-use Rattle.folding.specs.Fold.{termTree, constantTree, atomTree, sumTree, joinTerms}
+use Rattle.folding.specs.Fold.{consTerm, placeTerm, insertTerm, addConstant, addSums, scaleSum, stays, applyRule, applyRules, fuelFor, foldSum, termTree, constantTree, atomTree, sumTree, joinTerms}
 use Rattle.folding.specs.Folded.{Above, FoldedA, FoldedS}
 use Rattle.folding.proofs.Atoms.{outcome}
 use Rattle.folding.proofs.Divisors.{one-l, PosE}

@@ -10,8 +10,7 @@ use Rattle.expression.specs.Node.{maxDivisor}
 use Rattle.expression.proofs.Within.{Proper}
 use Rattle.folding.proofs.Cases.{by-cases}
 use Rattle.folding.specs.Sum.{Atom, Sum, atomOrder}
-use Rattle.folding.specs.Fold.{consTerm, placeTerm, insertTerm, addConstant, addSums, scaleSum, divides, partP, partR, Step, is, again}
-use Rattle.folding.specs.Fold.{rule1, rule2, rule3, stays, quotientOf, applyRule, applyRules, fuelFor, foldSum}
+use Rattle.folding.specs.Fold.{consTerm, placeTerm, insertTerm, addConstant, addSums, scaleSum, divides, partP, partR, Step, is, again, rule1, rule2, rule3, stays, quotientOf, applyRule, applyRules, fuelFor, foldSum}
 
 -- the sum that a rule leaves, where f finds the new floordiv or mod
 abbrev pub outcome : (Sum → ℕ → Sum) → Step → Sum

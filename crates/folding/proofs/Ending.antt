@@ -11,8 +11,7 @@ use Rattle.expression.specs.Expression.{Kind, Op, floordiv, modulo, Expr, Range
 use Rattle.expression.specs.Node.{maxDivisor}
 use Rattle.expression.proofs.Ring.{rem-lt, rem-is}
 use Rattle.folding.specs.Sum.{Sum, atomSize, sumSize}
-use Rattle.folding.specs.Fold.{addConstant, scaleSum, divides, partP, partR, Step, is, again, rule1, rule2, rule3, stays}
-use Rattle.folding.specs.Fold.{quotientOf, keepsAll, applyRule, applyRules, fuelFor, foldSum}
+use Rattle.folding.specs.Fold.{addConstant, scaleSum, divides, partP, partR, Step, is, again, rule1, rule2, rule3, stays, quotientOf, keepsAll, applyRule, applyRules, fuelFor, foldSum}
 use Rattle.folding.specs.Folded.{Above, FoldedS, flag, weight}
 use Rattle.folding.proofs.Divisors.{PosE, Dvd, quotient-above}
 use Rattle.folding.proofs.Cases.{divided, by-cases}

@@ -14,8 +14,7 @@ use Rattle.expression.specs.Expression.{Kind, Op, floordiv, modulo, Range, span
 use Rattle.expression.proofs.Within.{eqℤ-eq}
 use Rattle.expression.proofs.Order.{pos-inj}
 use Rattle.folding.specs.Sum.{Atom, Sum, atomOrder, atomRange, sumRange}
-use Rattle.folding.specs.Fold.{consTerm, placeTerm, insertTerm, addConstant, addSums, scaleSum, divides, partP, partR, Step, is, again}
-use Rattle.folding.specs.Fold.{rule1, rule2, rule3, stays, oneQuotient, quotientOf, keepsAll, divisorsTried, applyRule, applyRules}
+use Rattle.folding.specs.Fold.{consTerm, placeTerm, insertTerm, addConstant, addSums, scaleSum, divides, partP, partR, Step, is, again, rule1, rule2, rule3, stays, oneQuotient, quotientOf, keepsAll, divisorsTried, applyRule, applyRules}
 use Rattle.folding.specs.Folded.{FoldedS, weight}
 use Rattle.folding.specs.Working.{smallSums, restsTried, sumsFormed}
 use Rattle.folding.proofs.Cases.{divided, by-cases}

@@ -9,9 +9,7 @@ use Rattle.integer.proofs.Samples.{Agree}
 use Rattle.expression.specs.Expression.{Kind, d, s, rt, Op, floordiv, modulo, Expr, Range, span, opOf, eqℤ, addRange, mulRange, opRange, rangeOf, everyNode, smallRanges}
 use Rattle.expression.specs.Value.{pointOf, bounds}
 use Rattle.folding.specs.Sum.{Atom, Sum, atomRange, atomSize, termCount, thenBy, integerOrder, kindNumber, opNumber, atomOrder}
-use Rattle.folding.specs.Fold.{consTerm, placeTerm, insertTerm, addConstant, addSums, scaleSum, rule1, divides, partP, partR, oneQuotient, quotientOf, rule2}
-use Rattle.folding.specs.Fold.{insertDown, commonDivisors, divisorsTried, rule3, keepsAll, stays, rule4, rules34, rules2, applyRule, applyRules, fuelFor, foldSum}
-use Rattle.folding.specs.Fold.{termTree, constantTree, atomTree}
+use Rattle.folding.specs.Fold.{consTerm, placeTerm, insertTerm, addConstant, addSums, scaleSum, rule1, divides, partP, partR, oneQuotient, quotientOf, rule2, insertDown, commonDivisors, divisorsTried, rule3, keepsAll, stays, rule4, rules34, rules2, applyRule, applyRules, fuelFor, foldSum, termTree, constantTree, atomTree}
 use Rattle.folding.specs.Working.{smallFrom, smallSum, smallSums, restsTried, sumsFormed, treeSums, smallWorking}
 use Rattle.folding.specs.Map.{Constraint, foldTree, isInside, foldConstraints, goodNumbers}
 

@@ -10,8 +10,7 @@ use Rattle.expression.specs.Expression.{Kind, Expr, opOf, eqℤ, eval}
 use Rattle.expression.proofs.Ring.{*ℤ-distribr, +ℤ-left, ringℤ}
 use Rattle.expression.proofs.Within.{eqℤ-eq}
 use Rattle.folding.specs.Sum.{Atom, Sum, atomOrder, atomValue, sumValue}
-use Rattle.folding.specs.Fold.{consTerm, placeTerm, insertTerm, addConstant, addSums, scaleSum, divides, partP, partR}
-use Rattle.folding.specs.Fold.{termTree, constantTree, atomTree, sumTree, joinTerms}
+use Rattle.folding.specs.Fold.{consTerm, placeTerm, insertTerm, addConstant, addSums, scaleSum, divides, partP, partR, termTree, constantTree, atomTree, sumTree, joinTerms}
 use Rattle.folding.proofs.AtomOrder.{order-same}
 use Rattle.folding.proofs.Divisors.{one-l, halves, divides-is}
 

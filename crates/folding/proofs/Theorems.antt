@@ -20,8 +20,7 @@ use Rattle.folding.proofs.Size.{size-fold}
 use Rattle.folding.proofs.Numbers.{positive-numbers, tree-numbers}
 use Rattle.folding.proofs.FoldedTree.{fold-proper}
 use Rattle.folding.proofs.WorkingAgain.{fold-ranges, fold-numbers, fold-small-again}
-use Rattle.folding.proofs.Map.{AllTrees, all-trees, trees-both, small-trees, trees-small, all-results, all-constraints}
-use Rattle.folding.proofs.Map.{tree-value, results-kept, holds-folded, folded-holds, results-again, constraints-again}
+use Rattle.folding.proofs.Map.{AllTrees, all-trees, trees-both, small-trees, trees-small, all-results, all-constraints, tree-value, results-kept, holds-folded, folded-holds, results-again, constraints-again}
 
 -- ---- values: the dims dimensions and ranges range variables have values that lie in their bounds
 

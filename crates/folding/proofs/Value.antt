@@ -11,8 +11,7 @@ use Rattle.expression.proofs.Ring.{split, rem, rem-lt, rem-is}
 use Rattle.expression.proofs.Order.{Le-refl}
 use Rattle.expression.proofs.Within.{LeIn, sum-in, product-in, op-in, eqℤ-eq, same-quot, Proper, Inside, in-range}
 use Rattle.folding.specs.Sum.{Atom, Sum, atomValue, sumValue, atomRange, sumRange}
-use Rattle.folding.specs.Fold.{addConstant, scaleSum, partP, partR, Step, is, again}
-use Rattle.folding.specs.Fold.{rule1, rule2, rule3, stays, oneQuotient, quotientOf, applyRule, applyRules, fuelFor, foldSum}
+use Rattle.folding.specs.Fold.{addConstant, scaleSum, partP, partR, Step, is, again, rule1, rule2, rule3, stays, oneQuotient, quotientOf, applyRule, applyRules, fuelFor, foldSum}
 use Rattle.folding.specs.Folded.{FoldedA, FoldedS}
 use Rattle.folding.proofs.SumValue.{add-value, scale-value, constant-value, parts-value}
 use Rattle.folding.proofs.Cases.{divided, by-cases}

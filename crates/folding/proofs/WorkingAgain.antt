@@ -10,8 +10,7 @@ use Rattle.radix.proofs.Tests.{and-true, and-left, and-right}
 use Rattle.expression.specs.Expression.{Kind, Op, Expr, Range, span, eqℤ, addRange, mulRange, opRange, isSmall, smallRange, rangeOf, everyNode, smallRanges}
 use Rattle.expression.specs.Node.{maxDivisor}
 use Rattle.folding.specs.Sum.{Atom, Sum, atomRange, sumSize}
-use Rattle.folding.specs.Fold.{stays, applyRule, fuelFor, foldSum}
-use Rattle.folding.specs.Fold.{termTree, constantTree, atomTree, sumTree, joinTerms}
+use Rattle.folding.specs.Fold.{stays, applyRule, fuelFor, foldSum, termTree, constantTree, atomTree, sumTree, joinTerms}
 use Rattle.folding.specs.Folded.{FoldedA, FoldedS}
 use Rattle.folding.specs.Working.{smallFrom, smallSum, smallSums, sumsFormed, treeSums, smallWorking}
 use Rattle.folding.specs.Map.{goodNumbers, foldTree}
