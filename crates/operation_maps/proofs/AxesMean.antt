@@ -5,11 +5,11 @@ use mathlib.Core.List.{List}
 use Prim.Native.Nat.{ℕ, suc, _+_, _-_, _*_, _/_, _%_, _<_, _≤_}
 use native.Mathlib.Nat.{mul-div-left, mul-mod-left, div-add-mod', mul-le-mul-right, le-of-mul-le-mul-right, mul-comm, div-lt-iff-lt-mul}
 use native.Mathlib.Omega.{arith}
-use lib.IntN.{ℤ, pos, negsuc, negℤ, _+ℤ_, _*ℤ_}
+use lib.IntN.{ℤ, pos, negsuc, negℤ, natAbs, _+ℤ_, _*ℤ_}
 use Rattle.integer.specs.Floor.{floorDiv, floorMod}
 use Rattle.integer.proofs.Linear.{same, add-parts, diff-parts, up-mul, dn-mul, ≤-parts}
 use Rattle.radix.proofs.Lists.{le-or-lt}
-use Rattle.expression.specs.Expression.{d, span, In, eval, opOf}
+use Rattle.expression.specs.Expression.{d, Range, span, In, eval, opOf}
 use Rattle.folding.specs.Map.{Holds}
 use Rattle.operation_maps.specs.declared.Axis.{Axis}
 use Rattle.operation_maps.specs.declared.Axis.the-variants.{Keep, Flip, Cut, Shift}
@@ -24,6 +24,18 @@ minus a b h = same _ _ (omega (arith, diff-parts (pos a) (pos b)))
 
 turned : (n a : ℕ) → a ≤ n → negsuc 0 *ℤ pos a +ℤ pos n ≡ pos (n - a)
 turned n a h = same _ _ (omega (arith, add-parts (negsuc 0 *ℤ pos a) (pos n), up-mul (negsuc 0) (pos a), dn-mul (negsuc 0) (pos a)))
+
+-- ---- the bounds of a cut, input to output: both ends are taken
+
+pub cut-ends : (start limit stride lo hi : ℕ) → start < limit → inSide (Cut start limit stride) .bound ≡ span (pos lo) (pos hi)
+    → Meets (Cut start limit stride) 0 lo × Meets (Cut start limit stride) (taken start limit stride - 1) hi
+cut-ends start limit stride lo hi h e =
+    let a : lo ≡ start = sym (ap (λ (r : Range). natAbs (r .lo)) e) in
+    let b : hi ≡ start + (taken start limit stride - 1) * stride = sym (ap (λ (r : Range). natAbs (r .hi)) e) in
+    let n = (limit - 1 - start) / stride in
+    let c : (taken start limit stride - 1) * stride ≡ n * stride = ap (λ (m : ℕ). m * stride) (omega arith) in
+    let f = div-add-mod' (limit - 1 - start) stride in
+    ((omega (arith, a), omega (arith, a, h)), (omega (arith, b), omega (arith, b, c, f, h)))
 
 -- ---- a dimension kept or turned round: both ways alike
 

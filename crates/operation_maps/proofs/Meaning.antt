@@ -13,7 +13,7 @@ use Rattle.radix.specs.Radix.{maxSize, maxCount, prod, isWithin, Bounded}
 use Rattle.radix.proofs.Tests.{and-left, and-right, every-at, bounded-of}
 use Rattle.refusal.specs.Judge.{judge}
 use Rattle.refusal.specs.declared.Refusal.the-variants.{ShapeLimits, Attribute}
-use Rattle.refusal.specs.declared.Verdict.the-variants.{Done}
+use Rattle.refusal.specs.declared.Verdict.the-variants.{Done, Refused}
 use Rattle.refusal.proofs.Judged.{kept, rest}
 use Rattle.shape.specs.Shape.{maxRank, sizesOf, goodShape}
 use Rattle.shape.specs.Dimensions.{inRange, free}
@@ -70,6 +70,10 @@ choice-of l n e f =
 
 pub no-choice : (n : ℕ) → Choice [] n
 no-choice n = record { inside = λ k h. absurd (omega arith); apart = λ i j g h q. absurd (omega arith) }
+
+-- another cause of number 2 refuses before a repeat does
+pub other-first : (l : List ℕ) → judge (listRules true false l) ≡ Refused Attribute
+other-first l = refl
 
 -- a list judged: the shapes, the other attributes and the list keep their rules
 pub list-good : (s a : Bool) (l : List ℕ) → judge (listRules s a l) ≡ Done → (s ≡ true) × ((a ≡ true) × (free l ≡ true))

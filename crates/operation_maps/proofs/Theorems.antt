@@ -3,10 +3,8 @@ use mathlib.Core.Path.{_≡_, refl, sym, ap, ap₂, _∙_, subst}
 use mathlib.Core.Logic.{_↔_}
 use mathlib.Core.Bool.{true, false}
 use mathlib.Core.List.{List, [], _∷_, _++_}
-use Prim.Native.Nat.{ℕ, _+_, _-_, _*_, _/_, _<_}
-use native.Mathlib.Nat.{div-add-mod'}
-use native.Mathlib.Omega.{arith}
-use lib.IntN.{ℤ, pos, natAbs}
+use Prim.Native.Nat.{ℕ, _+_, _-_, _<_}
+use lib.IntN.{ℤ, pos}
 use lib.ListN.{getD}
 use Rattle.refusal.specs.Number.{Answer, done, refusal, answered, verdictAnswer}
 use Rattle.refusal.specs.Judge.{Rule, judge}
@@ -18,7 +16,7 @@ use Rattle.refusal.proofs.Judged.{after-done, before-done}
 use Rattle.shape.specs.Shape.{sizesOf}
 use Rattle.shape.specs.Dimensions.{free, earlierPlace, laterPlace}
 use Rattle.shape.specs.declared.Shape.{Shape}
-use Rattle.expression.specs.Expression.{Range, span}
+use Rattle.expression.specs.Expression.{span}
 use Rattle.indexing.specs.Answers.{noMap, mapBy}
 use Rattle.indexing.specs.declared.IndexingMap.{IndexingMap}
 use Rattle.indexing.proofs.Answered.{map-done, map-refused, map-number-zero}
@@ -35,7 +33,8 @@ use Rattle.operation_maps.specs.Operation.{Operation, rankOf, listRules,
 use Rattle.operation_maps.specs.Numbers.{ruleNumber}
 use Rattle.operation_maps.specs.Trimmed.{trimmed}
 use Rattle.operation_maps.proofs.Handed.{encoded-names, folded-names}
-use Rattle.operation_maps.proofs.Meaning.{right}
+use Rattle.operation_maps.proofs.AxesMean.{cut-ends}
+use Rattle.operation_maps.proofs.Meaning.{other-first, right}
 use Rattle.operation_maps.proofs.SelectionNamed.{others-same}
 use Rattle.operation_maps.proofs.Numbered.{rule-number}
 use Rattle.operation_maps.proofs.NeverRefused.{rules-alone}
@@ -77,7 +76,7 @@ refused-zeros way op r e = by-rules way op ∙ map-refused (foldedMap (encoded (
 pub repeat-last : (l : List ℕ)
     → (judge (listRules true false l) ≡ Refused Attribute)
     × (free l ≡ false → judge (listRules true true l) ≡ Refused (Repeat (earlierPlace l) (laterPlace l)))
-repeat-last l = (refl, λ e. rw e)
+repeat-last l = (other-first l, λ e. rw e)
 
 -- What shapes hold past their ranks, and operands past their count, alters nothing in the answer.
 pub past-counts : (way : Way) (p q : Operation) → trimmed p ≡ trimmed q → operationAnswer way p ≡ operationAnswer way q
@@ -154,10 +153,4 @@ reduce-order x l k h = ap (λ (o : List ℕ). spreadMap o (sizesOf x)) (left (ra
 -- Back from a slice, d runs from start to the last one taken: both ends are taken.
 pub slice-ends : (start limit stride lo hi : ℕ) → start < limit → inSide (Cut start limit stride) .bound ≡ span (pos lo) (pos hi)
     → Meets (Cut start limit stride) 0 lo × Meets (Cut start limit stride) (taken start limit stride - 1) hi
-slice-ends start limit stride lo hi h e =
-    let a : lo ≡ start = sym (ap (λ (r : Range). natAbs (r .lo)) e) in
-    let b : hi ≡ start + (taken start limit stride - 1) * stride = sym (ap (λ (r : Range). natAbs (r .hi)) e) in
-    let n = (limit - 1 - start) / stride in
-    let c : (taken start limit stride - 1) * stride ≡ n * stride = ap (λ (m : ℕ). m * stride) (omega arith) in
-    let f = div-add-mod' (limit - 1 - start) stride in
-    ((omega (arith, a), omega (arith, a, h)), (omega (arith, b), omega (arith, b, c, f, h)))
+slice-ends start limit stride lo hi h e = cut-ends start limit stride lo hi h e
