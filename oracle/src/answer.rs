@@ -1,6 +1,7 @@
 //! Answers: from the bytes of a whole input to the answer blocks of its requests.
 
 use crate::buffer::{load, pack, store, unpack};
+use crate::compose::compose;
 use crate::fold::fold;
 use crate::grid::grid;
 use crate::layout::{padded_size, Layout};
@@ -9,6 +10,7 @@ use crate::map_range::result_ranges;
 use crate::map_text::{interval_text, map_text};
 use crate::map_value::evaluate;
 use crate::offset::{offset_of_point, point_at_offset};
+use crate::operation_map::operation_map;
 use crate::refusal::Refusal;
 use crate::request::{read_request, Question, Request};
 use crate::route::{best_plan, Plan};
@@ -71,8 +73,14 @@ fn answer_request(request: &Request) -> String {
         }
         Request::Range(map) => ranges_answer(map),
         Request::Fold(map) => fold(map).map(|folded| map_text(&folded)),
+        Request::Compose { first, second } => {
+            compose(first, second).map(|composed| map_text(&composed))
+        }
+        Request::Operation { operation, way } => {
+            operation_map(operation, *way).map(|map| map_text(&map))
+        }
     };
-    answer.unwrap_or_else(|refusal| format!("refused {}", refusal.number()))
+    answer.unwrap_or_else(Refusal::text)
 }
 
 fn answer_question(

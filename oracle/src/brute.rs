@@ -1,6 +1,8 @@
 //! Brute force: small cases compared with a second reading of the documents.
 
+use crate::brute_compose::brute_compose;
 use crate::brute_maps::brute_maps;
+use crate::brute_operations::brute_operations;
 use crate::brute_routes::brute_routes;
 use crate::buffer::{pack, unpack};
 use crate::layout::{padded_size, Layout};
@@ -31,6 +33,8 @@ pub fn brute() -> Result<u64, String> {
     brute_layouts(&mut tally)?;
     brute_routes(&mut tally)?;
     brute_maps(&mut tally)?;
+    brute_compose(&mut tally)?;
+    brute_operations(&mut tally)?;
     Ok(tally.comparisons)
 }
 

@@ -78,7 +78,7 @@ pub fn read(text: &str) -> Option<Map> {
 }
 
 /// Every point inside the bounds.
-fn points(map: &Map) -> Vec<MapPoint> {
+pub fn points(map: &Map) -> Vec<MapPoint> {
     let dimensions = choices(&map.dimensions);
     let ranges = choices(&map.ranges);
     let mut points = Vec::new();

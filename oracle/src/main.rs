@@ -2,9 +2,12 @@
 
 mod answer;
 mod brute;
+mod brute_compose;
 mod brute_maps;
+mod brute_operations;
 mod brute_routes;
 mod buffer;
+mod compose;
 mod damage;
 mod expression_reader;
 mod fold;
@@ -19,12 +22,23 @@ mod map_rule;
 mod map_text;
 mod map_value;
 mod offset;
+mod operation;
+mod operation_draft;
+mod operation_map;
+mod operation_pairs;
+mod operation_rule;
 mod pad_reshape_transpose;
 mod random;
+mod random_compose_lines;
 mod random_expressions;
 mod random_kinds;
 mod random_map_lines;
 mod random_maps;
+mod random_operation_breaks;
+mod random_operation_lines;
+mod random_operations;
+mod random_pair_limits;
+mod random_pairs;
 mod random_pieces;
 mod random_requests;
 mod random_route_breaks;
@@ -35,20 +49,28 @@ mod reader;
 mod reader_maps;
 mod refusal;
 mod request;
+mod request_operations;
 mod route;
 mod route_by_trial;
 mod shape;
 mod share;
 mod small_cases;
+mod small_operations;
 #[cfg(test)]
 mod tests;
 #[cfg(test)]
+mod tests_compose;
+#[cfg(test)]
 mod tests_maps;
+#[cfg(test)]
+mod tests_operations;
 #[cfg(test)]
 mod tests_routes;
 mod token;
 mod vectors;
 mod vectors_buffers;
+mod vectors_composition_counts;
+mod vectors_compositions;
 mod vectors_documents;
 mod vectors_grids;
 mod vectors_layouts;
@@ -58,6 +80,9 @@ mod vectors_map_counts;
 mod vectors_map_rules;
 mod vectors_map_unreadable;
 mod vectors_maps;
+mod vectors_operation_rules;
+mod vectors_operation_unreadable;
+mod vectors_operations;
 mod vectors_order;
 mod vectors_places;
 mod vectors_routes;
@@ -72,7 +97,7 @@ use std::process::ExitCode;
 use random_kinds::{random_lines, Kind};
 
 const USAGE: &str =
-    "usage: oracle answer | random SEED N [layout | route | map] | vectors [DIR] | brute";
+    "usage: oracle answer | random SEED N [layout | route | map | compose | operation] | vectors [DIR] | brute";
 
 /// Where `vectors` writes when no directory is given.
 const VECTORS_DIRECTORY: &str = "crates/zungatewi";

@@ -16,7 +16,7 @@ pub struct MapPoint {
 pub fn evaluate(map: &Map, point: &MapPoint) -> Result<Vec<i128>, Refusal> {
     judge_pieces(map)?;
     if point.dimensions.len() != map.dimensions.len() || point.ranges.len() != map.ranges.len() {
-        return Err(Refusal::PointLength);
+        return Err(Refusal::Length);
     }
     judge_counts(map)?;
     judge_ranges(map)?;

@@ -1,7 +1,9 @@
-//! Random request lines by kind: layouts, routes, maps, or a mix of them.
+//! Random request lines by kind: layouts, routes, maps, compositions, operations, or a mix of them.
 
 use crate::random::Random;
+use crate::random_compose_lines::random_compose_line;
 use crate::random_map_lines::random_map_line;
+use crate::random_operation_lines::random_operation_line;
 use crate::random_requests::random_line;
 use crate::random_routes::random_route_line;
 
@@ -10,16 +12,20 @@ pub enum Kind {
     Layout,
     Route,
     Map,
+    Compose,
+    Operation,
 }
 
 /// The kinds of a mix; each stands as often as its share is.
-const MIX: [Kind; 6] = [
+const MIX: [Kind; 8] = [
     Kind::Layout,
     Kind::Layout,
     Kind::Layout,
     Kind::Route,
     Kind::Map,
     Kind::Map,
+    Kind::Compose,
+    Kind::Operation,
 ];
 
 impl Kind {
@@ -28,6 +34,8 @@ impl Kind {
             "layout" => Some(Kind::Layout),
             "route" => Some(Kind::Route),
             "map" => Some(Kind::Map),
+            "compose" => Some(Kind::Compose),
+            "operation" => Some(Kind::Operation),
             _ => None,
         }
     }
@@ -43,6 +51,8 @@ pub fn random_lines(seed: u64, count: u64, kind: Option<Kind>) -> Vec<u8> {
             Kind::Layout => random_line(&mut random),
             Kind::Route => random_route_line(&mut random),
             Kind::Map => random_map_line(&mut random),
+            Kind::Compose => random_compose_line(&mut random),
+            Kind::Operation => random_operation_line(&mut random),
         });
         lines.push(b'\n');
     }

@@ -12,9 +12,14 @@ const NUMBER: i64 = 1 << 62;
 /// Bytes that are put into map lines, besides those of `damage`.
 const BYTES: &[u8] = b"()[]{},:;->+*dsr0179 .";
 
-/// A map line, sometimes damaged, sometimes with other spaces.
+/// A map line.
 pub fn random_map_line(random: &mut Random) -> Vec<u8> {
-    let mut line = random_map_request(random).into_bytes();
+    let line = random_map_request(random).into_bytes();
+    written(random, line)
+}
+
+/// A line as it is, damaged, or with other spaces.
+pub fn written(random: &mut Random, mut line: Vec<u8>) -> Vec<u8> {
     match random.below(100) {
         0..=3 => damage(random, line),
         4..=8 => {
@@ -101,7 +106,7 @@ fn values(random: &mut Random, bounds: &[(i64, i64)]) -> Vec<i64> {
 }
 
 /// Breaks a rule of the map: bounds, ends, numbers, divisors, names or counts.
-fn break_rule(random: &mut Random, draft: &mut MapDraft) {
+pub fn break_rule(random: &mut Random, draft: &mut MapDraft) {
     let broken_bounds = [
         (1, 0),
         (0, BOUND + 1),
@@ -167,7 +172,7 @@ fn break_tree(random: &mut Random, draft: &mut MapDraft) {
 }
 
 /// The line without the spaces that no two tokens need between them.
-fn without_spaces(line: Vec<u8>) -> Vec<u8> {
+pub fn without_spaces(line: Vec<u8>) -> Vec<u8> {
     let mut short = Vec::new();
     for (place, &byte) in line.iter().enumerate() {
         let before = place.checked_sub(1).map(|before| line[before]);

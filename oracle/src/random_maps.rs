@@ -1,5 +1,7 @@
 //! Random map drafts: bounds, results and constraints as they are written, and their text.
 
+use crate::map::{Constraint, Interval, Map};
+use crate::map_text::tree_text;
 use crate::random::Random;
 use crate::random_expressions::{random_chain, random_expression, random_splits, Palette};
 
@@ -7,6 +9,7 @@ const BOUND: i64 = 1 << 40;
 const NUMBER: i64 = 1 << 62;
 
 /// A map as it is written.
+#[derive(Clone)]
 pub struct MapDraft {
     pub dimensions: Vec<(i64, i64)>,
     pub ranges: Vec<(i64, i64)>,
@@ -15,6 +18,21 @@ pub struct MapDraft {
 }
 
 impl MapDraft {
+    /// The draft of a map whose numbers all fit.
+    pub fn of(map: &Map) -> MapDraft {
+        let ends = |interval: &Interval| (interval.low as i64, interval.high as i64);
+        let constraint = |constraint: &Constraint| {
+            let (low, high) = ends(&constraint.interval);
+            (tree_text(&constraint.tree), low, high)
+        };
+        MapDraft {
+            dimensions: map.dimensions.iter().map(ends).collect(),
+            ranges: map.ranges.iter().map(ends).collect(),
+            results: map.results.iter().map(tree_text).collect(),
+            constraints: map.constraints.iter().map(constraint).collect(),
+        }
+    }
+
     pub fn text(&self) -> String {
         let dimensions = names("d", self.dimensions.len());
         let ranges = names("s", self.ranges.len());
@@ -37,7 +55,7 @@ impl MapDraft {
         text
     }
 
-    fn variables(&self) -> Vec<String> {
+    pub fn variables(&self) -> Vec<String> {
         let mut variables = names("d", self.dimensions.len());
         variables.extend(names("s", self.ranges.len()));
         variables
@@ -149,7 +167,7 @@ pub fn many_nodes(random: &mut Random) -> MapDraft {
     draft
 }
 
-fn empty_draft() -> MapDraft {
+pub fn empty_draft() -> MapDraft {
     MapDraft {
         dimensions: vec![],
         ranges: vec![],
@@ -158,7 +176,7 @@ fn empty_draft() -> MapDraft {
     }
 }
 
-fn small_bounds(random: &mut Random) -> (i64, i64) {
+pub fn small_bounds(random: &mut Random) -> (i64, i64) {
     let low = random.pick(&[0, 0, 0, 0, 1, -1, -3, -7, 5]);
     (low, low + random.pick(&[0, 1, 2, 3, 4, 5, 6, 9]))
 }
@@ -175,7 +193,7 @@ fn large_bounds(random: &mut Random) -> (i64, i64) {
     }
 }
 
-fn small_palette(random: &mut Random, draft: &MapDraft) -> Palette {
+pub fn small_palette(random: &mut Random, draft: &MapDraft) -> Palette {
     let base = random.between(2, 6);
     Palette {
         variables: draft.variables(),

@@ -46,12 +46,12 @@ pub fn random_draft(random: &mut Random, small: bool) -> Draft {
     }
 }
 
-fn small_sizes(random: &mut Random) -> Vec<i64> {
+pub fn small_sizes(random: &mut Random) -> Vec<i64> {
     let rank = random.pick(&[0, 1, 1, 2, 2, 2, 2, 3, 3, 4]);
     numbers(random, rank, 1, 6)
 }
 
-fn random_sizes(random: &mut Random) -> Vec<i64> {
+pub fn random_sizes(random: &mut Random) -> Vec<i64> {
     match random.below(100) {
         0..=47 => small_sizes(random),
         48..=59 => {
@@ -79,7 +79,7 @@ fn random_sizes(random: &mut Random) -> Vec<i64> {
 }
 
 /// Powers of two with a product of 2^39 to 2^41, one size sometimes moved by one.
-fn large_product(random: &mut Random) -> Vec<i64> {
+pub fn large_product(random: &mut Random) -> Vec<i64> {
     let rank = random.pick(&[2, 3, 4, 5, 6]);
     let mut exponents = vec![0u32; rank];
     let mut left = random.pick(&[39, 40, 40, 40, 41]);
@@ -223,7 +223,7 @@ fn numbers(random: &mut Random, count: usize, low: i64, high: i64) -> Vec<i64> {
     (0..count).map(|_| random.between(low, high)).collect()
 }
 
-fn unsigned(numbers: &[i64]) -> Vec<u64> {
+pub fn unsigned(numbers: &[i64]) -> Vec<u64> {
     let convert = |number: &i64| u64::try_from(*number).unwrap_or(u64::MAX);
     numbers.iter().map(convert).collect()
 }

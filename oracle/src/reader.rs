@@ -1,4 +1,4 @@
-//! Reader of a line: one token ahead, with the pieces SHAPE, LAYOUT, POINT and numbers.
+//! Reader of a line: one token ahead, with the pieces SHAPE, LAYOUT, POINT, LIST, WAY and numbers.
 
 use crate::layout::Layout;
 use crate::shape::Shape;
@@ -69,6 +69,26 @@ impl<'a> Reader<'a> {
 
     pub fn point(&mut self) -> Result<Vec<u64>, Unreadable> {
         self.list(b'(', b')')
+    }
+
+    /// A list of dimension numbers.
+    pub fn dimensions(&mut self) -> Result<Vec<u64>, Unreadable> {
+        self.list(b'{', b'}')
+    }
+
+    /// The way ahead: a run of letters and `-` that starts with a letter.
+    pub fn way(&self) -> Option<&'a [u8]> {
+        if !matches!(self.ahead.token, Token::Word(_)) {
+            return None;
+        }
+        let behind = &self.line[self.ahead.start..];
+        let part_of_it = |byte: &&u8| byte.is_ascii_alphabetic() || **byte == b'-';
+        Some(&behind[..behind.iter().take_while(part_of_it).count()])
+    }
+
+    pub fn go_past_way(&mut self) {
+        let length = self.way().map_or(0, <[u8]>::len);
+        self.ahead = token_at(self.line, self.ahead.start + length);
     }
 
     pub fn layout(&mut self) -> Result<Layout, Unreadable> {

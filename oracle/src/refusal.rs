@@ -2,20 +2,45 @@
 
 #[derive(Clone, Copy, Debug, PartialEq, Eq)]
 pub enum Refusal {
-    Shape = 1,
-    Limit = 2,
-    Layout = 3,
-    PaddedSize = 4,
-    Outside = 5,
-    PointLength = 6,
-    Counts = 7,
-    Working = 8,
-    ShortBuffer = 9,
-    NoPlan = 10,
+    Shape,
+    Limit,
+    /// Number 2 of a list that names a dimension twice, with the two places.
+    Repeat {
+        earlier: usize,
+        later: usize,
+    },
+    Layout,
+    PaddedSize,
+    Outside,
+    Length,
+    Counts,
+    Working,
+    ShortBuffer,
+    NoPlan,
 }
 
 impl Refusal {
     pub fn number(self) -> u32 {
-        self as u32
+        match self {
+            Refusal::Shape => 1,
+            Refusal::Limit | Refusal::Repeat { .. } => 2,
+            Refusal::Layout => 3,
+            Refusal::PaddedSize => 4,
+            Refusal::Outside => 5,
+            Refusal::Length => 6,
+            Refusal::Counts => 7,
+            Refusal::Working => 8,
+            Refusal::ShortBuffer => 9,
+            Refusal::NoPlan => 10,
+        }
+    }
+
+    /// The answer: the number, and the places of a repeat.
+    pub fn text(self) -> String {
+        let number = self.number();
+        match self {
+            Refusal::Repeat { earlier, later } => format!("refused {number} at {earlier} {later}"),
+            _ => format!("refused {number}"),
+        }
     }
 }

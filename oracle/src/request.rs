@@ -4,7 +4,9 @@ use crate::layout::Layout;
 use crate::map::Map;
 use crate::map_reader::read_map;
 use crate::map_value::MapPoint;
+use crate::operation::{Operation, Way};
 use crate::reader::{Reader, Unreadable};
+use crate::request_operations::{is_operation, read_operation};
 use crate::route::Route;
 use crate::shape::Shape;
 
@@ -35,6 +37,14 @@ pub enum Request {
     },
     Range(Map),
     Fold(Map),
+    Compose {
+        first: Map,
+        second: Map,
+    },
+    Operation {
+        operation: Operation,
+        way: Way,
+    },
 }
 
 /// What is asked about a shape with a layout.
@@ -88,6 +98,8 @@ pub fn read_request(line: &[u8]) -> Result<Request, Unreadable> {
         b"eval" => eval(&mut reader)?,
         b"range" => Request::Range(read_map(&mut reader)?),
         b"fold" => Request::Fold(read_map(&mut reader)?),
+        b"compose" => compose(&mut reader)?,
+        word if is_operation(word) => read_operation(word, &mut reader)?,
         word if is_placed(word) => placed(word, &mut reader)?,
         _ => return Err(Unreadable { column }),
     };
@@ -132,6 +144,14 @@ fn eval(reader: &mut Reader) -> Result<Request, Unreadable> {
     }
     let point = MapPoint { dimensions, ranges };
     Ok(Request::Eval { map, point })
+}
+
+/// Reads MAP ; MAP.
+fn compose(reader: &mut Reader) -> Result<Request, Unreadable> {
+    let first = read_map(reader)?;
+    reader.symbol(b';')?;
+    let second = read_map(reader)?;
+    Ok(Request::Compose { first, second })
 }
 
 fn is_placed(word: &[u8]) -> bool {

@@ -33,7 +33,7 @@ pub fn element_count(shape: &Shape) -> Result<u64, Refusal> {
 pub fn element_number(shape: &Shape, point: &[u64]) -> Result<u64, Refusal> {
     element_count(shape)?;
     if point.len() != shape.sizes.len() {
-        return Err(Refusal::PointLength);
+        return Err(Refusal::Length);
     }
     if point.iter().zip(&shape.sizes).any(|(e, size)| e >= size) {
         return Err(Refusal::Outside);

@@ -61,7 +61,7 @@ fn lists_of(tiles: &[&[u64]], count: usize) -> Vec<Vec<Vec<u64>>> {
 }
 
 /// Every list of that length with entries from the choices.
-fn tuples(choices: &[u64], length: usize) -> Vec<Vec<u64>> {
+pub fn tuples(choices: &[u64], length: usize) -> Vec<Vec<u64>> {
     let mut lists = vec![vec![]];
     for _ in 0..length {
         let mut longer = Vec::new();

@@ -7,6 +7,8 @@ use std::path::Path;
 use crate::answer::answer_input;
 use crate::random_kinds::{random_lines, Kind};
 use crate::vectors_buffers::BUFFERS;
+use crate::vectors_composition_counts::composition_counts;
+use crate::vectors_compositions::COMPOSITIONS;
 use crate::vectors_documents::{documents, formats};
 use crate::vectors_grids::GRIDS;
 use crate::vectors_layouts::LAYOUTS;
@@ -16,6 +18,9 @@ use crate::vectors_map_counts::map_counts;
 use crate::vectors_map_rules::MAP_RULES;
 use crate::vectors_map_unreadable::{long_maps, MAP_TOKENS};
 use crate::vectors_maps::MAPS;
+use crate::vectors_operation_rules::{repeats, OPERATION_RULES};
+use crate::vectors_operation_unreadable::{long_operations, OPERATION_TOKENS};
+use crate::vectors_operations::OPERATIONS;
 use crate::vectors_order::ORDER;
 use crate::vectors_places::PLACES;
 use crate::vectors_routes::{ROUTES, UNREADABLE_ROUTES};
@@ -36,6 +41,8 @@ const SEED: u64 = 20_010_001;
 const RANDOM_REQUESTS: u64 = 3000;
 const RANDOM_ROUTES: u64 = 2000;
 const RANDOM_MAPS: u64 = 4000;
+const RANDOM_COMPOSITIONS: u64 = 3000;
+const RANDOM_OPERATIONS: u64 = 4000;
 
 /// Writes both files into a directory.
 pub fn write_vectors(directory: &str) -> io::Result<()> {
@@ -52,6 +59,8 @@ fn requests() -> Vec<u8> {
     layouts(&mut bytes);
     routes(&mut bytes);
     maps(&mut bytes);
+    compositions(&mut bytes);
+    operations(&mut bytes);
     bytes.extend(b"# a last line that ends at the end of the input\n");
     bytes.extend(b"offset [3,5] {1,0:T(2,2)} (2,3)");
     bytes
@@ -91,6 +100,30 @@ fn maps(bytes: &mut Vec<u8>) {
     long_maps(&mut text);
     bytes.extend(text.bytes());
     random_group(bytes, "maps", RANDOM_MAPS, Kind::Map);
+}
+
+/// The requests about composing.
+fn compositions(bytes: &mut Vec<u8>) {
+    let mut text = String::new();
+    for (title, lines) in COMPOSITIONS {
+        group(&mut text, title, lines.iter());
+    }
+    composition_counts(&mut text);
+    bytes.extend(text.bytes());
+    random_group(bytes, "compositions", RANDOM_COMPOSITIONS, Kind::Compose);
+}
+
+/// The requests about operations.
+fn operations(bytes: &mut Vec<u8>) {
+    let mut text = String::new();
+    let tables = OPERATIONS.iter().chain(OPERATION_RULES);
+    for (title, lines) in tables.chain(OPERATION_TOKENS) {
+        group(&mut text, title, lines.iter());
+    }
+    repeats(&mut text);
+    long_operations(&mut text);
+    bytes.extend(text.bytes());
+    random_group(bytes, "operations", RANDOM_OPERATIONS, Kind::Operation);
 }
 
 /// Adds a comment, and random lines of one kind.

@@ -14,7 +14,7 @@ use Rattle.refusal.specs.Judge.{rule, judge}
 use Rattle.refusal.specs.declared.Refusal.{Refusal}
 use Rattle.refusal.specs.declared.Refusal.the-variants.{CountLimit, WorkingLimit}
 use Rattle.refusal.specs.declared.Verdict.{Verdict}
-use Rattle.refusal.specs.declared.Verdict.the-variants.{Done, Refused}
+use Rattle.refusal.specs.declared.Verdict.the-variants.{Refused}
 use Rattle.expression.specs.Expression.{nodeCount}
 use Rattle.expression.specs.Node.{maxVariables, maxNodes}
 use Rattle.expression.specs.declared.Node.{Node}
@@ -23,7 +23,7 @@ use Rattle.indexing.specs.Ready.{Formed}
 use Rattle.indexing.specs.declared.IndexingMap.{IndexingMap}
 use Rattle.folding.specs.Map.{Constraint, constraintTrees}
 use Rattle.encoding.specs.Written.{counted}
-use Rattle.encoding.specs.Encode.{filled, boundsOf, nodesOf, encodeMap}
+use Rattle.encoding.specs.Encode.{filled, nodesOf, encodeMap}
 use Rattle.encoding.proofs.Encoded.{nodes-append}
 use Rattle.radix.proofs.Tests.{and-false}
 use Rattle.indexing.specs.Answers.{noMap, mapAnswer, answeredMap}

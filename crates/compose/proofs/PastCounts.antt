@@ -18,8 +18,8 @@ use Rattle.expression.proofs.Within.{Proper}
 use Rattle.indexing.specs.Map.{maxConstraints, goodParts, goodCounts, SameAt, Alike}
 use Rattle.indexing.specs.Ready.{Formed}
 use Rattle.indexing.specs.declared.IndexingMap.{IndexingMap}
-use Rattle.indexing.proofs.Formed.{counts, held-at}
-use Rattle.indexing.proofs.Unread.{tree-same, parts-same, counts-same, ranges-same}
+use Rattle.indexing.proofs.Formed.{counts}
+use Rattle.indexing.proofs.Unread.{parts-same, counts-same, ranges-same}
 use Rattle.folding.specs.Map.{Constraint}
 use Rattle.encoding.specs.Postfix.{Encodable}
 use Rattle.encoding.specs.Encode.{treesOf, nodesOf, encodeMap, AllEncodable, allSmall}
@@ -29,7 +29,7 @@ use Rattle.encoding.proofs.SameBounds.{record-same, variable-same}
 use Rattle.encoding.proofs.SameTrees.{expr-same, interval-same, map-constraints-same}
 use Rattle.encoding.proofs.Trees.{runs-all}
 use Rattle.indexing.specs.Answers.{noMap}
-use Rattle.encoding.specs.Trees.{listed, exprOf, exprAt, constraintAt, mapConstraints}
+use Rattle.encoding.specs.Trees.{listed, exprAt, constraintAt, mapConstraints}
 use Rattle.compose.specs.ComposeMap.{substitute, putInto, insideAt, substituted, composedResults, composedConstraints, composedTrees, composedLower, composedUpper, composedMap, fewComposed, smallComposed, composeRules, composeAnswer}
 use Rattle.compose.specs.Ready.{Composable}
 use Rattle.compose.proofs.Splicing.{expr-encodable}

@@ -1,7 +1,7 @@
 -- At a point the composed map is one map after the other: domain and values. Assumes nothing.
 use mathlib.Core.Path.{_≡_, refl, sym, ap, ap₂, _∙_, subst}
 use mathlib.Core.Logic.{_↔_}
-use mathlib.Core.Bool.{Bool, true, false, _&&_}
+use mathlib.Core.Bool.{Bool, _&&_}
 use mathlib.Core.List.{List, _∷_, _++_}
 use Prim.Native.Nat.{ℕ, _+_, _-_, _<_, _≤_}
 use native.Mathlib.Omega.{arith}
@@ -13,16 +13,13 @@ use lib.ListN.{length, getD, replicate, length-append, List·getD-append}
 use lib.Seq.{getD-append-add}
 use Rattle.radix.proofs.Tests.{and-true, and-left, and-right}
 use Rattle.refusal.specs.Number.{answered}
-use Rattle.refusal.specs.Judge.{unless, judge}
-use Rattle.refusal.specs.declared.Refusal.the-variants.{Outside, WrongLength}
 use Rattle.refusal.specs.declared.Verdict.{Verdict}
-use Rattle.refusal.specs.declared.Verdict.the-variants.{Done}
 use Rattle.expression.specs.Expression.{Expr, span, In, eval}
 use Rattle.expression.specs.Node.{maxVariables, maxPlaces}
 use Rattle.expression.specs.Value.{pointOf}
 use Rattle.indexing.specs.Map.{maxResults, valueAt, inDomain, Domain, SameAt, rightLength}
-use Rattle.indexing.specs.Ready.{Formed, Accepted}
-use Rattle.indexing.specs.Answers.{valuesOf, pointRules, resultValues}
+use Rattle.indexing.specs.Ready.{Formed}
+use Rattle.indexing.specs.Answers.{valuesOf, resultValues}
 use Rattle.indexing.specs.declared.IndexingMap.{IndexingMap}
 use Rattle.indexing.proofs.Formed.{counts}
 use Rattle.indexing.proofs.Theorems.{domain-is}

@@ -1,14 +1,12 @@
 -- Nodes of a run written one after another, as they are or with f's results put in. Assumes nothing.
 use mathlib.Core.Path.{_≡_, sym, ap, _∙_, subst}
-use mathlib.Core.Bool.{Bool, cond}
 use mathlib.Core.List.{List, [], _∷_, _++_}
-use Prim.Native.Nat.{ℕ, zero, suc, _+_, _<_, _≤_}
+use Prim.Native.Nat.{ℕ, zero, suc, _+_, _<_}
 use native.Mathlib.Omega.{arith}
 use native.Mathlib.Nat.{add-zero}
-use borrow.Author.Tests.{le-ltb}
 use lib.IntN.{ℤ, pos}
 use lib.ListN.{getD}
-use Rattle.expression.specs.Node.{maxVariables, nodeOf, nodesAt}
+use Rattle.expression.specs.Node.{nodeOf, nodesAt}
 use Rattle.expression.specs.Decode.{tree}
 use Rattle.expression.specs.declared.Node.{Node}
 use Rattle.expression.proofs.Reading.{node-sound}
@@ -18,7 +16,7 @@ use Rattle.indexing.specs.Ready.{Formed, runOf}
 use Rattle.indexing.specs.declared.IndexingMap.{IndexingMap}
 use Rattle.indexing.specs.declared.Run.the-variants.{Held}
 use Rattle.indexing.proofs.Formed.{nodes-here}
-use Rattle.encoding.specs.Postfix.{noPlace, placeFrom, postfix, Encodable}
+use Rattle.encoding.specs.Postfix.{postfix, Encodable}
 use Rattle.encoding.specs.Written.{Room, Written}
 use Rattle.encoding.proofs.Stored.{nothing, both}
 use Rattle.encoding.proofs.Unique.{nodes-unique, run-encodable}

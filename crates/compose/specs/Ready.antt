@@ -11,7 +11,7 @@ use Rattle.refusal.specs.declared.Refusal.the-variants.{WorkingLimit}
 use Rattle.expression.specs.Expression.{Expr, nodeCount}
 use Rattle.expression.specs.Node.{maxVariables, maxPlaces, maxNodes, Sound}
 use Rattle.expression.specs.declared.Node.{Node}
-use Rattle.indexing.specs.Map.{maxResults, maxConstraints, goodRanges}
+use Rattle.indexing.specs.Map.{maxConstraints, goodRanges}
 use Rattle.indexing.specs.Ready.{Formed}
 use Rattle.indexing.specs.declared.IndexingMap.{IndexingMap}
 use Rattle.folding.specs.Map.{Constraint}

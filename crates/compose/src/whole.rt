@@ -10,7 +10,7 @@ ghost use mathlib.Core.Path.{_≡_};
 ghost use Prim.Native.Nat.{_+_, _≤_};
 ghost use Rattle.indexing.specs.Map.{maxConstraints};
 ghost use Rattle.indexing.specs.Ready.{Formed};
-ghost use Rattle.indexing.specs.Answers.{noMap, mapAnswer, answeredMap};
+ghost use Rattle.indexing.specs.Answers.{mapAnswer};
 ghost use Rattle.compose.specs.ComposeMap.{composeAnswer, formedCompose};
 ghost use Rattle.compose.specs.Ready.{Composable, Joinable, constraintCount, joinedRecord, Builds, rangesJudged};
 

@@ -9,7 +9,6 @@ use lib.ListN.{length, length-take, getD, getD-replicate, List·getD-eq-default,
 use lib.Seq.{getD-append-add, getD-take, getD-drop}
 use Rattle.expression.specs.Expression.{Kind, d, s, rt, Expr, Range, addRange, mulRange, opRange, rangeOf, smallRange, smallRanges, everyNode}
 use Rattle.expression.specs.Node.{maxVariables, maxPlaces}
-use Rattle.expression.specs.Decode.{tree}
 use Rattle.encoding.specs.Postfix.{Encodable}
 use Rattle.encoding.specs.Encode.{filled, boundsOf}
 use Rattle.encoding.proofs.Filled.{filled-length, filled-at}

@@ -13,7 +13,7 @@ use lib.Seq.{drop-drop, drop-cons}
 use Rattle.integer.specs.Exact.{limit}
 use Rattle.expression.specs.Expression.{d, s, rt, floordiv, modulo, Expr, nodeCount}
 use Rattle.expression.specs.Node.{maxVariables, maxDivisor, orBad, placeNode, nodeOf, nodesAt}
-use Rattle.expression.specs.Machine.{stack, walk}
+use Rattle.expression.specs.Machine.{walk}
 use Rattle.expression.specs.Decode.{exprAlg, tree, treeOf, decode}
 use Rattle.expression.specs.declared.Node.{Node}
 use Rattle.expression.specs.declared.Node.the-variants as N

@@ -1,6 +1,5 @@
 -- Two records that agree below their counts have the same trees and bounds. Assumes nothing.
 use mathlib.Core.Path.{_≡_, sym, ap, ap₂, _∙_}
-use mathlib.Core.List.{List}
 use Prim.Native.Nat.{ℕ, _+_, _<_}
 use native.Mathlib.Omega.{arith}
 use Rattle.expression.specs.Expression.{Kind, Expr, Range, span}
@@ -11,7 +10,6 @@ use Rattle.indexing.specs.Ready.{Formed}
 use Rattle.indexing.specs.declared.IndexingMap.{IndexingMap}
 use Rattle.indexing.proofs.Formed.{counts, held-at}
 use Rattle.indexing.proofs.Unread.{tree-same}
-use Rattle.folding.specs.Map.{Constraint}
 use Rattle.encoding.specs.Trees.{listed, exprOf, exprAt, constraintAt, resultTrees, mapConstraints, mapBounds}
 use Rattle.encoding.proofs.Listed.{listed-same}
 use Rattle.encoding.proofs.SameBounds.{variable-same}

@@ -1,10 +1,10 @@
 -- At a point the folded map has the domain and the values of the map. Assumes nothing.
 use mathlib.Core.Path.{_≡_, refl, sym, ap, ap₂, _∙_, subst}
-use mathlib.Core.Logic.{_↔_, ⊎-elim}
+use mathlib.Core.Logic.{_↔_}
 use mathlib.Core.Bool.{Bool, true, false, _&&_}
-use mathlib.Core.List.{List, [], _∷_, _++_}
-use Prim.Native.Nat.{ℕ, zero, suc, _+_, _<_}
-use native.Mathlib.Nat.{zero-add, le-of-suc-le-suc, eq-or-lt-of-le}
+use mathlib.Core.List.{List, _∷_}
+use Prim.Native.Nat.{ℕ, _+_, _<_}
+use native.Mathlib.Nat.{zero-add}
 use native.Mathlib.Omega.{arith}
 use lib.Dec.{eqb}
 use lib.IntN.{ℤ, pos}
@@ -12,29 +12,27 @@ use lib.ListN.{length, getD, replicate}
 use lib.Seq.{getD-drop}
 use Rattle.radix.proofs.Tests.{and-left, and-right}
 use Rattle.refusal.specs.Number.{answered}
-use Rattle.refusal.specs.Judge.{unless, judge}
-use Rattle.refusal.specs.declared.Refusal.the-variants.{Outside, WrongLength}
 use Rattle.refusal.specs.declared.Verdict.{Verdict}
 use Rattle.refusal.specs.declared.Verdict.the-variants.{Done}
 use Rattle.expression.specs.Expression.{Kind, d, s, Expr, span, In, eval}
 use Rattle.expression.specs.Node.{maxVariables}
-use Rattle.expression.specs.Value.{pointOf, bounds, treeValue}
+use Rattle.expression.specs.Value.{pointOf, bounds}
 use Rattle.expression.proofs.Within.{Proper, Inside}
 use Rattle.indexing.specs.Map.{maxResults, valueAt, rightLength, areIn, inBounds, inDomain, Domain, SameAt}
-use Rattle.indexing.specs.Ready.{Formed, Accepted}
-use Rattle.indexing.specs.Answers.{valuesOf, pointRules, resultValues}
+use Rattle.indexing.specs.Ready.{Formed}
+use Rattle.indexing.specs.Answers.{valuesOf, resultValues}
 use Rattle.indexing.specs.declared.IndexingMap.{IndexingMap}
 use Rattle.indexing.proofs.Answered.{pointVerdict, point-judged}
 use Rattle.indexing.proofs.Comparisons.{same-test}
 use Rattle.indexing.proofs.Formed.{in-interval}
 use Rattle.indexing.proofs.Theorems.{domain-is}
 use Rattle.indexing.proofs.Unread.{front-same}
-use Rattle.folding.specs.Map.{Constraint, constraintTrees, Holds, foldTree}
+use Rattle.folding.specs.Map.{constraintTrees, Holds, foldTree}
 use Rattle.folding.proofs.Map.{AllTrees, all-trees, tree-value, holds-folded, folded-holds}
 use Rattle.encoding.specs.Encode.{encodeMap}
 use Rattle.encoding.proofs.Lists.{map-at}
 use Rattle.encoding.proofs.Encoded.{encoded-dimension, encoded-range}
-use Rattle.encoding.specs.Trees.{listed, exprAt, constraintAt, resultTrees, mapConstraints, mapBounds}
+use Rattle.encoding.specs.Trees.{exprAt, resultTrees, mapConstraints, mapBounds}
 use Rattle.fold.specs.FoldMap.{foldedResults, foldedConstraints, foldedMap}
 use Rattle.encoding.proofs.Listed.{listed-length, listed-at}
 use Rattle.encoding.proofs.SameBounds.{variable-same}

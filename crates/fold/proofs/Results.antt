@@ -19,8 +19,7 @@ use Rattle.folding.specs.Map.{foldTree, foldResults, smallTrees}
 use Rattle.words.specs.Words.{sumWords}
 use Rattle.words.proofs.Tests.{clash}
 use Rattle.expression.specs.Expression.{nodeCount}
-use Rattle.encoding.specs.Postfix.{postfix}
-use Rattle.encoding.specs.Written.{counted, Room, Written, EmitsSum}
+use Rattle.encoding.specs.Written.{counted, Room, EmitsSum}
 use Rattle.encoding.specs.Encode.{filled, nodesOf, Holds, Zeros}
 use Rattle.encoding.proofs.Lists.{map-append}
 use Rattle.encoding.proofs.Filled.{filled-next}

@@ -10,7 +10,6 @@ use lib.IntN.{ℤ, pos, natAbs}
 use lib.ListN.{length, getD}
 use lib.Seq.{getD-drop}
 use lib.Signed.{leZ}
-use Rattle.integer.specs.Exact.{limit}
 use Rattle.radix.proofs.Tests.{and-left, and-right, every-at}
 use Rattle.expression.specs.Expression.{Expr, span, smallRanges}
 use Rattle.expression.specs.Node.{maxVariables, maxNodes, nodesAt}

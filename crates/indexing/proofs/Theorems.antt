@@ -13,7 +13,6 @@ use lib.Signed.{leZ}
 use mir.Syntax.{w64}
 use mir.Val.{SFits}
 use Rattle.integer.specs.Exact.{limit}
-use Rattle.radix.specs.Radix.{every}
 use Rattle.radix.proofs.Tests.{and-true, and-left, and-right, every-all, every-at}
 use Rattle.expression.specs.Expression.{Expr, NodeOf, eval, span, In, rangeOf}
 use Rattle.refusal.specs.Number.{verdictAnswer}

@@ -1,4 +1,4 @@
--- A map before it is folded, as lists of trees: the bounds of its variables, its results and its constraints. Assumes nothing.
+-- A map as lists: the bounds of its variables, and the trees of its results and constraints. Assumes nothing.
 use mathlib.Core.List.{List, _++_, map}
 use Prim.Native.Nat.{ℕ, _-_}
 use lib.IntN.{ℤ, pos}
@@ -39,7 +39,8 @@ placesOf ds ss = filled maxVariables (pos 0) ds ++ ss
 
 unfoldable pub encoded : Raw → IndexingMap
 encoded m =
-    encodeMap (length (m .dims)) (length (m .ranges)) (placesOf (lows (m .dims)) (lows (m .ranges))) (placesOf (highs (m .dims)) (highs (m .ranges)))
+    encodeMap (length (m .dims)) (length (m .ranges))
+    (placesOf (lows (m .dims)) (lows (m .ranges))) (placesOf (highs (m .dims)) (highs (m .ranges)))
     (m .results) (m .constraints)
 
 -- counts within their limits, and trees that their nodes give back

@@ -1,4 +1,4 @@
--- The maps of operations that treat each dimension by itself, and of those that select dimensions, either way. Assumes nothing.
+-- The maps of each dimension by itself, and of some of the dimensions, either way by a test. Assumes nothing.
 use mathlib.Core.Path.{_≡_}
 use mathlib.Core.Bool.{Bool, true, false, cond}
 use mathlib.Core.List.{List, map}

@@ -53,7 +53,9 @@ abbrev pub noneKept : Kept
 noneKept = record { count = 0; dims = filled maxRank 0 []; sizes = filled maxRank 0 [] }
 
 abbrev pub keepNext : List ℕ → ℕ → ℕ → Kept → Kept
-keepNext l j size k = cond (isListed l j) k (record { count = k .count + 1; dims = set (k .dims) (k .count) j; sizes = set (k .sizes) (k .count) size })
+keepNext l j size k =
+    cond (isListed l j) k
+    (record { count = k .count + 1; dims = set (k .dims) (k .count) j; sizes = set (k .sizes) (k .count) size })
 
 -- those below j
 pub record KeptAs (l ns : List ℕ) (j : ℕ) (k : Kept) : Type 0 where

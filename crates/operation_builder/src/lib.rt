@@ -1,4 +1,4 @@
-// The maps of the operations before folding, built: each dimension by itself, some of the dimensions, and from shape to shape.
+// The maps of the operations, built: each dimension by itself, some of the dimensions, and from shape to shape.
 mod axes;
 mod digits;
 pub mod inner;

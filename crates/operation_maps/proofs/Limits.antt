@@ -34,8 +34,7 @@ use Rattle.encoding.specs.Trees.{mapBounds}
 use Rattle.fold.specs.FoldMap.{smallFold, fewNodes, foldRules}
 use Rattle.encoding.proofs.Trees.{made-results, made-constraints}
 use Rattle.fold.proofs.Folded.{folds-done, all-left, all-right}
-use Rattle.map_builder.specs.Raw.{Raw, lows, highs, placesOf, encoded, Fits}
-use Rattle.map_builder.specs.Raw.{wholeOf}
+use Rattle.map_builder.specs.Raw.{Raw, lows, highs, placesOf, encoded, Fits, wholeOf}
 use Rattle.operation_maps.proofs.Fitted.{nodes-join, nodes-more}
 use Rattle.operation_maps.proofs.Handed.{rangeAt, place-dimension, place-range, lows-few, highs-few, dims-same, ranges-same}
 

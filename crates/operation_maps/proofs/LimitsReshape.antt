@@ -15,8 +15,7 @@ use Rattle.folding.proofs.Natural.{IsNatural}
 use Rattle.folding.proofs.PlainTrees.{NaturalE, natural-plain}
 use Rattle.folding.proofs.FoldedSize.{atomCount}
 use Rattle.shape.specs.Shape.{maxRank}
-use Rattle.map_builder.specs.Raw.{upTo}
-use Rattle.map_builder.specs.Raw.{wholeOf}
+use Rattle.map_builder.specs.Raw.{upTo, wholeOf}
 use Rattle.operation_maps.specs.Reshape.{linearFrom, linear, digitTrees, splitTrees, reshapeMap, Positive}
 use Rattle.operation_maps.proofs.ReshapeNamed.{prod-positive}
 use Rattle.operation_maps.proofs.Fitted.{no-constraints, whole-length, tail-le, split-nodes}

@@ -225,6 +225,23 @@ joins-of count held dim j e =
       asked = ltb-true j count (and-left (ltb j count) _ (and-right (ltb dim rank) _ p));
     }
 
+-- the operand asked for: its sizes keep their limits, and so does what stands before it
+pub record Operand (count : ℕ) (held : List Shape) (dim j : ℕ) : Type 0 where
+  pub sizes : Limited (operandSizes count held j)
+  pub by : joinedBefore count held dim j ≤ maxSize
+
+pub operand : (count : ℕ) (held : List Shape) (dim j : ℕ) → judge (operationRules (Operation.concatenate count held dim j)) ≡ Done → Operand count held dim j
+operand count held dim j e =
+    let goodAt : ℕ → Bool = λ (k : ℕ). goodShape (getD (operands count held) k noShape) in
+    let e1 = rest (goodOperands count held) ShapeLimits _ e in
+    let t = joins-of count held dim j (kept (goodJoin count held dim j) Attribute _ e1) in
+    let z = kept (goodSizes (joinedSizes count held dim)) ShapeLimits _ (rest (goodJoin count held dim j) Attribute _ e1) in
+    let l : j < length (operands count held) = omega (arith, t .asked, t .held-all, length-take count held) in
+    record {
+      sizes = limited-of (getD (operands count held) j noShape) (every-at goodAt (length (operands count held)) (kept (goodOperands count held) ShapeLimits _ e) j l);
+      by = omega (arith, joined-up count held dim j (omega (arith, t .asked)), joined-small count held dim (t .dimension) z);
+    }
+
 pub right : (op : Operation) → judge (operationRules op) ≡ Done → Right op
 right (Operation.elementwise x) e =
     axes-right (keptAxes (sizesOf x)) (kept-dimensions (sizesOf x) (limited-of x (kept (goodShape x) ShapeLimits _ e))) (Operation.elementwise x) refl refl refl
@@ -242,14 +259,9 @@ right (Operation.transpose x l) e =
 right (Operation.reverse x l) e =
     axes-right (reversedAxes (sizesOf x) l) (reversed-dimensions (sizesOf x) (limited-of x (kept (goodShape x) ShapeLimits _ e)) l) (Operation.reverse x l) refl refl refl
 right (Operation.concatenate count held dim j) e =
-    let goodAt : ℕ → Bool = λ (k : ℕ). goodShape (getD (operands count held) k noShape) in
-    let e1 = rest (goodOperands count held) ShapeLimits _ e in
-    let t = joins-of count held dim j (kept (goodJoin count held dim j) Attribute _ e1) in
-    let z = kept (goodSizes (joinedSizes count held dim)) ShapeLimits _ (rest (goodJoin count held dim j) Attribute _ e1) in
-    let l : j < length (operands count held) = omega (arith, t .asked, t .held-all, length-take count held) in
-    let g = limited-of (getD (operands count held) j noShape) (every-at goodAt (length (operands count held)) (kept (goodOperands count held) ShapeLimits _ e) j l) in
-    let by : joinedBefore count held dim j ≤ 2 ^ 40 = omega (arith, joined-up count held dim j (omega (arith, t .asked)), joined-small count held dim (t .dimension) z) in
-    axes-right (joinedAxes (operandSizes count held j) dim (joinedBefore count held dim j)) (joined-dimensions (operandSizes count held j) g dim (joinedBefore count held dim j) by) (Operation.concatenate count held dim j) refl refl refl
+    let h = operand count held dim j e in
+    let by = joinedBefore count held dim j in
+    axes-right (joinedAxes (operandSizes count held j) dim by) (joined-dimensions (operandSizes count held j) (h .sizes) dim by (omega (arith, h .by))) (Operation.concatenate count held dim j) refl refl refl
 right (Operation.reduce x l) e =
     let g = limited-of x (kept (goodShape x) ShapeLimits _ e) in
     let w = selects (keptDims x l) (sizesOf x) (limited-positive (sizesOf x) g) (g .few) (others-choice l (rankOf x)) in

@@ -1,22 +1,21 @@
 -- An operation whose own rules are kept is never refused by folding, either way: its rules alone decide. Assumes nothing.
 use mathlib.Core.Path.{_≡_, refl, sym, _∙_}
 use mathlib.Core.Bool.{Bool, true, false, _&&_, cond}
-use mathlib.Core.List.{List, [], _∷_, _++_}
+use mathlib.Core.List.{List, [], _++_}
 use Prim.Native.Nat.{ℕ, _<_, _≤_}
 use native.Mathlib.Omega.{arith}
 use borrow.Author.Tests.{leb-true, ltb-true}
 use lib.Dec.{leb, ltb, eqb}
-use lib.ListN.{length, getD, length-take}
+use lib.ListN.{length, getD}
 use Rattle.refusal.specs.Judge.{judge}
-use Rattle.refusal.specs.declared.Refusal.the-variants.{ShapeLimits, Attribute, Repeat}
+use Rattle.refusal.specs.declared.Refusal.the-variants.{ShapeLimits, Attribute}
 use Rattle.refusal.specs.declared.Verdict.{Verdict}
 use Rattle.refusal.specs.declared.Verdict.the-variants.{Done, Refused}
 use Rattle.refusal.proofs.Judged.{kept, rest, after-done, after-refused}
-use Rattle.radix.specs.Radix.{maxSize, every, Bounded}
+use Rattle.radix.specs.Radix.{maxSize, Bounded}
 use Rattle.radix.proofs.Tests.{and-left, and-right, every-at}
 use Rattle.shape.specs.Shape.{maxRank, sizesOf, goodShape}
-use Rattle.shape.specs.Dimensions.{inRange, free, earlierPlace, laterPlace}
-use Rattle.shape.specs.declared.Shape.{Shape}
+use Rattle.shape.specs.Dimensions.{inRange}
 use Rattle.fold.specs.FoldMap.{foldRules}
 use Rattle.operation_maps.specs.declared.Axis.{Axis}
 use Rattle.operation_maps.specs.declared.Axis.the-variants.{Keep, Flip, Cut, Shift}
@@ -25,10 +24,10 @@ use Rattle.operation_maps.specs.declared.Way.the-variants.{OutputToInput
 use Rattle.map_builder.specs.Raw.{encoded}
 use Rattle.operation_maps.specs.Lists.{select, isListed}
 use Rattle.operation_maps.specs.Selection.{selectMap, spreadMap, Choice}
-use Rattle.operation_maps.specs.Operation.{Operation, maxOperands, rankOf, keptDims, operands, operandSizes, noShape, joinedBefore, joinedSizes, allAlike, goodSizes, goodCut, goodCuts, goodBroadcast, listRules, operationRules, outputToInput, inputToOutput, rawOf}
+use Rattle.operation_maps.specs.Operation.{Operation, rankOf, keptDims, operandSizes, joinedBefore, maxStride, goodCut, goodCuts, goodBroadcast, operationRules, outputToInput, inputToOutput, rawOf}
 use Rattle.operation_maps.proofs.SelectionNamed.{select-at, select-length, others-choice}
 use Rattle.operation_maps.proofs.Fitted.{choice-few}
-use Rattle.operation_maps.proofs.Meaning.{Limited, limited-of, limited-positive, choice-of, no-choice, joined-up, joined-small, right}
+use Rattle.operation_maps.proofs.Meaning.{Limited, limited-of, limited-positive, choice-of, no-choice, list-good, operand, right}
 use Rattle.operation_maps.proofs.Limits.{Keeps, not-refused}
 use Rattle.operation_maps.proofs.LimitsSelection.{select-keeps, spread-keeps}
 use Rattle.operation_maps.proofs.LimitsReshape.{reshape-keeps}
@@ -60,7 +59,7 @@ module _ (ns : List ℕ) (g : Limited ns) where
       let e1 = and-right (ltb start lim) _ e in
       let b = leb-true lim n (and-left (leb lim n) _ e1) in
       let e2 = and-right (leb lim n) _ e1 in
-      (a, (omega arith, (leb-true 1 stride (and-left (leb 1 stride) _ e2), leb-true stride maxSize (and-right (leb 1 stride) _ e2))))
+      (a, (omega arith, (leb-true 1 stride (and-left (leb 1 stride) _ e2), leb-true stride maxStride (and-right (leb 1 stride) _ e2))))
 
   sliced-sized : (starts limits strides : List ℕ) → goodCuts ns starts limits strides ≡ true
       → (k : ℕ) → k < length ns → Sized (Cut (getD starts k 0) (getD limits k 0) (getD strides k 0))
@@ -73,36 +72,6 @@ module _ (ns : List ℕ) (g : Limited ns) where
   selects : (l : List ℕ) → Choice l (length ns) → Keeps (selectMap l ns) × Keeps (spreadMap l ns)
   selects l c = (select-keeps l ns (g .few) (sized ns g) c, spread-keeps l ns (g .few) (sized ns g) c)
 
--- what a list of dimensions and the rules before it keep
-list-kept : (shapes attributes : Bool) (l : List ℕ) → judge (listRules shapes attributes l) ≡ Done → (shapes ≡ true) × (attributes ≡ true) × (free l ≡ true)
-list-kept shapes attributes l e =
-    let e1 = rest shapes ShapeLimits _ e in
-    (kept shapes ShapeLimits _ e, kept attributes Attribute _ e1, kept (free l) (Repeat (earlierPlace l) (laterPlace l)) _ (rest attributes Attribute _ e1))
-
--- the operand asked for, and what stands before it
-record Operand (count : ℕ) (held : List Shape) (dim j : ℕ) : Type 0 where
-  sizes : Limited (operandSizes count held j)
-  by : joinedBefore count held dim j ≤ maxSize
-
-operand : (count : ℕ) (held : List Shape) (dim j : ℕ) → judge (operationRules (Operation.concatenate count held dim j)) ≡ Done → Operand count held dim j
-operand count held dim j e =
-    let all = every (λ (k : ℕ). goodShape (getD (operands count held) k noShape)) (length (operands count held)) in
-    let counts = leb 1 count && (leb count maxOperands && leb count (length held)) in
-    let places = ltb dim (length (operandSizes count held 0)) && (ltb j count && allAlike count held dim) in
-    let e1 = rest all ShapeLimits _ e in
-    let a = kept (counts && places) Attribute _ e1 in
-    let p = and-right counts places a in
-    let c = leb-true count (length held) (and-right (leb count maxOperands) _ (and-right (leb 1 count) _ (and-left counts places a))) in
-    let dim-in = ltb-true dim (length (operandSizes count held 0)) (and-left (ltb dim (length (operandSizes count held 0))) _ p) in
-    let j-in = ltb-true j count (and-left (ltb j count) _ (and-right (ltb dim (length (operandSizes count held 0))) _ p)) in
-    let z = kept (goodSizes (joinedSizes count held dim)) ShapeLimits _ (rest (counts && places) Attribute _ e1) in
-    let l : j < length (operands count held) = omega (arith, length-take count held) in
-    record {
-      sizes = limited-of (getD (operands count held) j noShape)
-          (every-at (λ (k : ℕ). goodShape (getD (operands count held) k noShape)) (length (operands count held)) (kept all ShapeLimits _ e) j l);
-      by = omega (arith, joined-up count held dim j (omega arith), joined-small count held dim dim-in z);
-    }
-
 -- ---- one operation after another
 
 abbrev Both : Operation → Type 0
@@ -113,12 +82,12 @@ keep-both (Operation.elementwise x) e =
     let g = limited-of x (kept (goodShape x) ShapeLimits _ e) in
     axes-keep (λ (k : ℕ). Keep (getD (sizesOf x) k 0)) (rankOf x) (g .few) (kept-sized (sizesOf x) g)
 keep-both (Operation.broadcast x y l) e =
-    let h = list-kept (goodShape x && goodShape y) (goodBroadcast (sizesOf x) (sizesOf y) l) l e in
-    let r = and-left (inRange (rankOf y) l) _ (and-right (eqb (length l) (rankOf x)) _ (h .1)) in
-    selects (sizesOf y) (limited-of y (and-right (goodShape x) (goodShape y) (h .0))) l (choice-of l (rankOf y) r (h .2))
+    let h = list-good (goodShape x && goodShape y) (goodBroadcast (sizesOf x) (sizesOf y) l) l e in
+    let r = and-left (inRange (rankOf y) l) _ (and-right (eqb (length l) (rankOf x)) _ (h .1 .0)) in
+    selects (sizesOf y) (limited-of y (and-right (goodShape x) (goodShape y) (h .0))) l (choice-of l (rankOf y) r (h .1 .1))
 keep-both (Operation.transpose x l) e =
-    let h = list-kept (goodShape x) (eqb (length l) (rankOf x) && inRange (rankOf x) l) l e in
-    let w = selects (sizesOf x) (limited-of x (h .0)) l (choice-of l (rankOf x) (and-right (eqb (length l) (rankOf x)) _ (h .1)) (h .2)) in
+    let h = list-good (goodShape x) (eqb (length l) (rankOf x) && inRange (rankOf x) l) l e in
+    let w = selects (sizesOf x) (limited-of x (h .0)) l (choice-of l (rankOf x) (and-right (eqb (length l) (rankOf x)) _ (h .1 .0)) (h .1 .1)) in
     (w .1, w .0)
 keep-both (Operation.reverse x l) e =
     let g = limited-of x (kept (goodShape x) ShapeLimits _ e) in

@@ -9,14 +9,14 @@ use Rattle.radix.specs.Radix.{prod}
 use Rattle.refusal.specs.Number.{verdictAnswer, numberOf}
 use Rattle.refusal.specs.Judge.{rule, judge}
 use Rattle.refusal.specs.declared.Refusal.{Refusal}
-use Rattle.refusal.specs.declared.Refusal.the-variants.{ShapeLimits, Attribute, Repeat}
+use Rattle.refusal.specs.declared.Refusal.the-variants.{ShapeLimits, Attribute}
 use Rattle.shape.specs.Shape.{sizesOf, goodShape}
-use Rattle.shape.specs.Dimensions.{inRange, free, earlierPlace, laterPlace}
-use Rattle.operation_maps.specs.Operation.{Operation, rankOf, goodSizes, goodBroadcast, goodCuts, goodOperands, goodJoin, joinedSizes, listRules, operationRules}
+use Rattle.shape.specs.Dimensions.{inRange, free}
+use Rattle.operation_maps.specs.Operation.{Operation, noRepeat, rankOf, goodSizes, goodBroadcast, goodCuts, goodOperands, goodJoin, joinedSizes, listRules, operationRules}
 use Rattle.operation_maps.specs.Numbers.{listNumber, ruleNumber}
 
 list-number : (s a : Bool) (l : List ℕ) → verdictAnswer (judge (listRules s a l)) .number ≡ listNumber s a l
-list-number s a l = go s a (free l) (Repeat (earlierPlace l) (laterPlace l)) refl
+list-number s a l = go s a (free l) (noRepeat l .otherwise) refl
   where
     go : (s a f : Bool) (r : Refusal) → numberOf r ≡ 2
         → verdictAnswer (judge (rule s ShapeLimits ∷ rule a Attribute ∷ rule f r ∷ [])) .number ≡ cond s (cond a (cond f 0 2) 2) 1

@@ -25,10 +25,16 @@ sideTests [] k = []
 sideTests (x ∷ xs) k = x .tests (Expr.var d k) ++ sideTests xs (suc k)
 
 abbrev pub sideMap : List Side → Raw
-sideMap xs = record { dims = map (λ (x : Side). x .bound) xs; ranges = []; results = sideTrees xs 0; constraints = sideTests xs 0 }
+sideMap xs =
+    record {
+      dims = map (λ (x : Side). x .bound) xs;
+      ranges = [];
+      results = sideTrees xs 0;
+      constraints = sideTests xs 0;
+    }
 
--- ---- what an operation does to one dimension: keeps it (size), turns it round (size), cuts it (start, limit, stride) or shifts it
--- (by how much, size)
+-- ---- what an operation does to one dimension: it keeps it (size), turns it round (size), cuts it (start, limit, stride), or
+-- shifts it (by how much, size)
 
 -- how many are taken from start on, stride apart, below limit
 abbrev pub taken : ℕ → ℕ → ℕ → ℕ
@@ -73,7 +79,8 @@ Meets (Shift by n) o i = (i < n) × (o ≡ i + by)
 -- in every dimension
 pub data Each (R : Axis → ℕ → ℕ → Type 0) : List Axis → List ℕ → List ℕ → Type 0 where
   none : Each R [] [] []
-  more : {a : Axis} {axs : List Axis} {x y : ℕ} {xs ys : List ℕ} → R a x y → Each R axs xs ys → Each R (a ∷ axs) (x ∷ xs) (y ∷ ys)
+  more : {a : Axis} {axs : List Axis} {x y : ℕ} {xs ys : List ℕ}
+      → R a x y → Each R axs xs ys → Each R (a ∷ axs) (x ∷ xs) (y ∷ ys)
 
 abbrev pub axesPairs : List Axis → List ℕ → List ℕ → Type 0
 axesPairs axs o i = Each Meets axs o i

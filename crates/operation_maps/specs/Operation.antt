@@ -1,4 +1,4 @@
--- The operations, both ways (01): their rules in the order of the numbers, their two maps, their pairs of points, and the answers. Assumes nothing.
+-- The operations, both ways: their rules, their two maps, their pairs of points, and the answers. Assumes nothing.
 use mathlib.Core.Bool.{Bool, cond, _&&_, _||_}
 use mathlib.Core.List.{List, [], _∷_, _++_}
 use Prim.Native.Nat.{ℕ, zero, suc, _+_, _^_}
@@ -63,7 +63,8 @@ joinedAxes ns dim by = listed (λ (k : ℕ). cond (eqb k dim) (Shift by (getD ns
 
 -- slice: start, limit and stride of each dimension
 abbrev pub slicedAxes : List ℕ → List ℕ → List ℕ → List ℕ → List Axis
-slicedAxes ns starts limits strides = listed (λ (k : ℕ). Cut (getD starts k 0) (getD limits k 0) (getD strides k 0)) (length ns)
+slicedAxes ns starts limits strides =
+    listed (λ (k : ℕ). Cut (getD starts k 0) (getD limits k 0) (getD strides k 0)) (length ns)
 
 -- reduce: the dimensions that stay, in their order
 abbrev pub keptDims : Shape → List ℕ → List ℕ
@@ -149,7 +150,8 @@ goodJoin count held dim j =
 -- in the order of the numbers: 1 of the shapes given; 2, the repeat last; 1 of the result's shape
 abbrev pub operationRules : Operation → List Rule
 operationRules (Operation.elementwise x) = rule (goodShape x) ShapeLimits ∷ []
-operationRules (Operation.broadcast x y l) = listRules (goodShape x && goodShape y) (goodBroadcast (sizesOf x) (sizesOf y) l) l
+operationRules (Operation.broadcast x y l) =
+    listRules (goodShape x && goodShape y) (goodBroadcast (sizesOf x) (sizesOf y) l) l
 operationRules (Operation.transpose x l) = listRules (goodShape x) (eqb (length l) (rankOf x) && inRange (rankOf x) l) l
 operationRules (Operation.reverse x l) = listRules (goodShape x) (inRange (rankOf x) l) l
 operationRules (Operation.concatenate count held dim j) =

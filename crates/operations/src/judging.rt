@@ -1,4 +1,5 @@
 // Shapes and lists of dimensions, judged.
+use super::MAX_STRIDE;
 use refusal::Refusal;
 use refusal::Verdict;
 use shape::Shape;
@@ -121,7 +122,7 @@ fn good_cut(size: u64, start: u64, limit: u64, stride: u64) -> bool
     if stride < 1 {
         return false;
     }
-    stride <= super::MAX_STRIDE
+    stride <= MAX_STRIDE
 }
 
 // A cut of every dimension.

@@ -10,6 +10,7 @@ pub use changing::elementwise;
 pub use changing::reverse;
 pub use changing::slice;
 pub use joining::concatenate;
+pub use operation_maps::Way;
 pub use reshaping::reshape;
 pub use selecting::broadcast;
 pub use selecting::reduce;

@@ -2,7 +2,6 @@
 use borrow.Author.Needs.{needs, sfits-of}
 use borrow.Author.Tests.{lt-ltb, le-ltb}
 use mathlib.Core.Path.{refl}
-use native.Mathlib.Omega.{arith}
 use mir.Facts.{toZ-ofZ}
 use Rattle.compose.proofs.bounds.joined_end.Statement.{statement}
 use Rattle.compose.proofs.bounds.joined_end.Tie as tie

@@ -1,5 +1,4 @@
 -- `fold::whole::folded_record` meets its contract. Assumes nothing.
-use borrow.Author.Needs.{needs}
 use Rattle.indexing.proofs.Formed.{counts}
 use Rattle.fold.proofs.whole.folded_record.Statement.{statement}
 use Rattle.fold.proofs.whole.folded_record.Tie as tie

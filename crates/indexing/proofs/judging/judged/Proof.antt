@@ -4,7 +4,6 @@ use borrow.Author.Tests.{not-true, not-false}
 use mathlib.Core.Path.{_≡_, sym, _∙_}
 use mathlib.Core.Bool.{true}
 use Prim.Native.Nat.{_-_}
-use Rattle.refusal.proofs.Judged.{kept}
 use Rattle.indexing.specs.Map.{goodParts, goodCounts}
 use Rattle.indexing.specs.declared.Run.the-variants as run
 use Rattle.indexing.proofs.judging.judged.Statement.{statement}

@@ -7,7 +7,6 @@ use Prim.Native.Nat.{_-_}
 use denote.Ref.{now}
 use lib.Dec.{eqb}
 use lib.ListN.{length}
-use Rattle.refusal.proofs.Judged.{kept}
 use Rattle.radix.proofs.Tests.{and-true, and-left, and-right}
 use Rattle.indexing.specs.Map.{goodParts, goodCounts, goodRanges, rightLength, inBounds, inDomain}
 use Rattle.indexing.specs.Ready.{Formed, Measured}

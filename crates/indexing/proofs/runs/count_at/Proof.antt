@@ -3,7 +3,7 @@ use borrow.Author.Needs.{needs}
 use borrow.Author.Tests.{lt-ltb, le-ltb}
 use Prim.Native.Nat.{_-_}
 use native.Mathlib.Omega.{arith}
-use Rattle.indexing.specs.Map.{countIn, runs}
+use Rattle.indexing.specs.Map.{countIn}
 use Rattle.indexing.specs.declared.Run.the-variants as run
 use Rattle.indexing.proofs.runs.count_at.Statement.{statement}
 use Rattle.indexing.proofs.runs.count_at.Tie as tie

@@ -3,7 +3,6 @@ use borrow.Author.Needs.{needs}
 use mathlib.Core.Path.{_≡_, sym, ap, _∙_}
 use Prim.Native.Nat.{_-_}
 use Rattle.expression.specs.Decode.{isTree}
-use Rattle.indexing.specs.Map.{runs}
 use Rattle.indexing.specs.Ready.{runOf}
 use Rattle.indexing.specs.declared.Run.the-variants as run
 use Rattle.indexing.proofs.Formed.{held-here, run-here, tree-here, cut-is}

@@ -3,7 +3,7 @@ use borrow.Author.Needs.{needs}
 use mathlib.Core.Path.{_≡_, ap₂}
 use Prim.Native.Nat.{_+_, _-_, min}
 use Rattle.expression.specs.Node.{maxNodes}
-use Rattle.indexing.specs.Map.{startOf, runs, countOf}
+use Rattle.indexing.specs.Map.{startOf, countOf}
 use Rattle.indexing.specs.declared.Run.the-variants as run
 use Rattle.indexing.proofs.Starts.{past-cut, ends-cut, ends-held}
 use Rattle.indexing.proofs.runs.run_of.Statement.{statement}

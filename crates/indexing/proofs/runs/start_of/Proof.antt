@@ -6,7 +6,7 @@ use Prim.Native.Nat.{ℕ, _+_, _-_, _≤_, min}
 use native.Mathlib.Omega.{arith}
 use denote.Ref.{now}
 use Rattle.expression.specs.Node.{maxNodes}
-use Rattle.indexing.specs.Map.{startOf, countIn, runs}
+use Rattle.indexing.specs.Map.{startOf, countIn}
 use Rattle.indexing.specs.declared.Run.the-variants as run
 use Rattle.indexing.proofs.Starts.{start-next}
 use Rattle.indexing.proofs.runs.start_of.Statement.{statement}
