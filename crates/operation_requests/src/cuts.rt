@@ -2,7 +2,7 @@
 use crate::ways::read_way;
 use indexing::AnsweredMap;
 use map_printing::print_answer;
-use operation_maps::Way;
+use operations::Way;
 use reading::Cursor;
 use reading::NumbersRead;
 use reading::expect;

@@ -1,6 +1,6 @@
 // The way of a map, the last argument of a request for one.
 use crate::Operation;
-use operation_maps::Way;
+use operations::Way;
 use reading::Cursor;
 use reading::expect_hyphenated;
 use reading::finish;
