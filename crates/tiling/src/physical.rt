@@ -1,4 +1,5 @@
 // The physical shape and the physical index of a layout, tile by tile.
+use reciprocal::inner;
 ghost use mathlib.Core.Path.{_≡_};
 ghost use mathlib.Core.List.{List};
 ghost use Prim.Native.Nat.{_+_, _-_, _/_, _%_, _<_, _≤_};
@@ -7,29 +8,13 @@ ghost use Rattle.radix.specs.Radix.{prod, digits, rowMajor, Sizes, Bounded, In}
 ghost use Rattle.shape.specs.Shape.{maxRank};
 ghost use Rattle.tiling.specs.Tile.{tileDims, tileIndex, gather, reversed, indexOf, physical, offset, offsetAt};
 ghost use Rattle.tiling.specs.Tile.{maxTiles, maxEntry, maxPhysical, tilesFrom};
+ghost use Rattle.reciprocal.specs.Multiplier.{AreMultipliers};
 ghost use Rattle.tiling.specs.Ready.{Under, Levels, Ready, IsPhysical};
 
 // A physical shape or index: at most 24 numbers, major first.
 pub struct Physical {
     pub len: usize,
     pub at: [u64; 24],
-}
-
-// Quotient and remainder.
-pub struct Divided {
-    pub quotient: u64,
-    pub remainder: u64,
-}
-
-// A number divided by a tile entry.
-pub fn divide(n: u64, entry: u64) -> Divided
-    requires { ⌜ (0 < entry) × (entry ≤ maxEntry) ⌝ }
-    ensures { λ r. ⌜ (r .quotient ≡ n / entry) × (r .remainder ≡ n % entry) ⌝ }
-{
-    Divided {
-        quotient: n / entry,
-        remainder: n % entry,
-    }
 }
 
 // Entry i of the shape ds tiled by ts.
@@ -46,14 +31,14 @@ fn tiled_dim(ds: &[u64], ts: &[u64], i: usize) -> u64
     }
     if i < n {
         let t = ts[i - k];
-        let d = divide(ds[i] + (t - 1), t);
-        return d.quotient;
+        return (ds[i] + (t - 1)) / t;
     }
     ts[i - n]
 }
 
 // Entry i of the index es tiled by ts.
-fn tiled_index(es: &[u64], ts: &[u64], i: usize) -> u64
+fn tiled_index(es: &[u64], ts: &[u64], i: usize, m: &[u64]) -> u64
+    requires { ⌜ AreMultipliers (now m) ⌝ }
     requires { ⌜ (length (now ts) ≤ length (now es)) × (i < length (now es) + length (now ts)) ⌝ }
     requires { ⌜ Bounded maxEntry (now ts) ⌝ }
     ensures { λ r. ⌜ r ≡ getD (tileIndex (now (ts .entry)) (now (es .entry))) i 0 ⌝ }
@@ -64,10 +49,10 @@ fn tiled_index(es: &[u64], ts: &[u64], i: usize) -> u64
         return es[i];
     }
     if i < n {
-        let d = divide(es[i], ts[i - k]);
+        let d = inner::divide(es[i], ts[i - k], m);
         return d.quotient;
     }
-    let d = divide(es[i - ts.len()], ts[i - n]);
+    let d = inner::divide(es[i - ts.len()], ts[i - n], m);
     d.remainder
 }
 
@@ -87,7 +72,8 @@ fn tile_dims(ds: &[u64], ts: &[u64], out: &mut [u64])
 }
 
 // The index es tiled by ts, at the front of out.
-fn tile_index(es: &[u64], ts: &[u64], out: &mut [u64])
+fn tile_index(es: &[u64], ts: &[u64], out: &mut [u64], m: &[u64])
+    requires { ⌜ AreMultipliers (now m) ⌝ }
     requires { ⌜ (length (now ts) ≤ length (now es)) × (length (now es) + length (now ts) ≤ length (now out)) ⌝ }
     requires { ⌜ Bounded maxEntry (now ts) ⌝ }
     ensures { λ _. ⌜ take (length (now (es .entry)) + length (now (ts .entry))) (now (out .exit)) ≡ tileIndex (now (ts .entry)) (now (es .entry)) ⌝ }
@@ -95,7 +81,7 @@ fn tile_index(es: &[u64], ts: &[u64], out: &mut [u64])
     let n = es.len() + ts.len();
     let mut i: usize = 0;
     while i < n {
-        out[i] = tiled_index(es, ts, i);
+        out[i] = tiled_index(es, ts, i, m);
         i += 1;
     }
 }
@@ -152,7 +138,8 @@ pub fn physical_dims(sizes: &[u64], p: &[u64], lens: &[usize], flat: &[u64]) -> 
 }
 
 // The physical index of a point: its coordinates in the order p, and each tile on that.
-fn physical_index(point: &[u64], p: &[u64], lens: &[usize], flat: &[u64]) -> Physical
+fn physical_index(point: &[u64], p: &[u64], lens: &[usize], flat: &[u64], m: &[u64]) -> Physical
+    requires { ⌜ AreMultipliers (now m) ⌝ }
     requires { ⌜ (length (now p) ≤ maxRank) × (length (now lens) ≤ maxTiles) ⌝ }
     requires { ⌜ Under (length (now point)) (now p) ⌝ }
     requires { ⌜ Levels (now lens) (now flat) (length (now p)) ⌝ }
@@ -163,15 +150,39 @@ fn physical_index(point: &[u64], p: &[u64], lens: &[usize], flat: &[u64]) -> Phy
     let mut len = p.len();
     let mut l: usize = 0;
     while l < lens.len() {
-        let m = lens[l];
+        let n = lens[l];
         let a = 6 * l;
-        let e = a + m;
+        let e = a + n;
         let old = at;
-        tile_index(&old[..len], &flat[a..e], &mut at);
-        len += m;
+        tile_index(&old[..len], &flat[a..e], &mut at, m);
+        len += n;
         l += 1;
     }
     Physical { len, at }
+}
+
+// The offset of a point, where d is the physical shape and m the multipliers.
+fn placed(
+    sizes: &[u64],
+    p: &[u64],
+    lens: &[usize],
+    flat: &[u64],
+    d: Physical,
+    point: &[u64],
+    m: &[u64],
+) -> u64
+    requires { ⌜ AreMultipliers (now m) ⌝ }
+    requires { ⌜ Ready (now sizes) (now p) (now lens) (now flat) ⌝ }
+    requires { ⌜ IsPhysical d (physical (now sizes) (now p) (tilesFrom (now lens) (now flat))) ⌝ }
+    requires { ⌜ In (now point) (now sizes) ⌝ }
+    ensures { λ r. ⌜ r ≡ offsetAt (now (sizes .entry)) (now (p .entry)) (tilesFrom (now (lens .entry)) (now (flat .entry))) (now (point .entry)) ⌝ }
+{
+    let i = physical_index(point, p, lens, flat, m);
+    let at = d.at;
+    let len = d.len;
+    let es = i.at;
+    let n = i.len;
+    radix::row_major(&at[..len], &es[..n])
 }
 
 // The offset of a point, where d is the physical shape.
@@ -188,12 +199,8 @@ pub fn offset_at(
     requires { ⌜ In (now point) (now sizes) ⌝ }
     ensures { λ r. ⌜ r ≡ offsetAt (now (sizes .entry)) (now (p .entry)) (tilesFrom (now (lens .entry)) (now (flat .entry))) (now (point .entry)) ⌝ }
 {
-    let i = physical_index(point, p, lens, flat);
-    let at = d.at;
-    let len = d.len;
-    let es = i.at;
-    let m = i.len;
-    radix::row_major(&at[..len], &es[..m])
+    let none = [0u64; 1];
+    placed(sizes, p, lens, flat, d, point, &none[..0])
 }
 
 // The offset of element number n, where d is the physical shape.
@@ -207,4 +214,26 @@ pub fn offset_in(sizes: &[u64], p: &[u64], lens: &[usize], flat: &[u64], d: Phys
     radix::digits_into(sizes, n, &mut point);
     let r = sizes.len();
     offset_at(sizes, p, lens, flat, d, &point[..r])
+}
+
+// The offset of element number n, where d is the physical shape and m the multipliers.
+pub fn offset_by(
+    sizes: &[u64],
+    p: &[u64],
+    lens: &[usize],
+    flat: &[u64],
+    d: Physical,
+    n: u64,
+    m: &[u64],
+) -> u64
+    requires { ⌜ AreMultipliers (now m) ⌝ }
+    requires { ⌜ Ready (now sizes) (now p) (now lens) (now flat) ⌝ }
+    requires { ⌜ IsPhysical d (physical (now sizes) (now p) (tilesFrom (now lens) (now flat))) ⌝ }
+    requires { ⌜ n < prod (now sizes) ⌝ }
+    ensures { λ r. ⌜ r ≡ offset (now (sizes .entry)) (now (p .entry)) (tilesFrom (now (lens .entry)) (now (flat .entry))) n ⌝ }
+{
+    let mut point = [0u64; 6];
+    radix::digits_into(sizes, n, &mut point);
+    let r = sizes.len();
+    placed(sizes, p, lens, flat, d, &point[..r], m)
 }
