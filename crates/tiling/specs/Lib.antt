@@ -1,4 +1,5 @@
 pub mod Tile
 pub mod Cell
+pub mod Row
 pub mod Ready
 pub mod Found

@@ -2,6 +2,7 @@
 mod cell;
 mod lists;
 mod physical;
+mod row;
 
 pub use cell::Found;
 pub use lists::cell_found;
@@ -12,3 +13,4 @@ pub use physical::offset_by;
 pub use physical::offset_in;
 pub use physical::physical_dims;
 pub use physical::reverse_into;
+pub use row::row_room;
