@@ -1,3 +1,5 @@
 pub mod Packing
+pub mod Walking
+pub mod Cuts
 pub mod Rules
 pub mod Theorems

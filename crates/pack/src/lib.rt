@@ -1,6 +1,8 @@
 // Packing a table into the cells of a layout and back, and storing and loading one element, over lent buffers.
+mod cut;
 mod inner;
 mod loops;
+mod rows;
 
 use layout::Layout;
 use refusal::Refusal;

@@ -1,12 +1,18 @@
 // The loops over the elements, from the lists of a shape and a layout. Inner functions.
+use super::rows;
+use tiling::Physical;
 ghost use mathlib.Core.Path.{_≡_};
 ghost use mathlib.Core.List.{_++_};
 ghost use Prim.Native.Nat.{_≤_};
 ghost use lib.ListN.{length, drop, replicate};
 ghost use Rattle.radix.specs.Radix.{prod};
-ghost use Rattle.tiling.specs.Tile.{tilesFrom, padded};
-ghost use Rattle.tiling.specs.Ready.{Ready};
+ghost use Rattle.tiling.specs.Tile.{tilesFrom, padded, physical};
+ghost use Rattle.tiling.specs.Ready.{Ready, IsPhysical};
 ghost use Rattle.pack.specs.Pack.{packed, unpacked};
+ghost use Rattle.pack.specs.Rows.{Stored, Loaded, startOf};
+
+// From so many elements on the long table and the multipliers are worth their making.
+const MANY: u64 = 4096;
 
 // 0 in the first n places.
 fn clear(cells: &mut [u32], n: usize)
@@ -18,6 +24,118 @@ fn clear(cells: &mut [u32], n: usize)
         cells[i] = 0;
         i += 1;
     }
+}
+
+// 0 in the first size places, where there are fewer elements: what is not padding is written later.
+fn clear_padding(cells: &mut [u32], count: u64, size: u64)
+    requires { ⌜ size ≤ length (now cells) ⌝ }
+    ensures { λ _. ⌜ now (cells .exit) ≡ startOf count size (now (cells .entry)) ⌝ }
+{
+    if count < size {
+        clear(cells, size as usize);
+    }
+}
+
+// Packs with a short table, dividing plainly.
+fn pack_few(
+    sizes: &[u64],
+    p: &[u64],
+    lens: &[usize],
+    flat: &[u64],
+    d: Physical,
+    source: &[u32],
+    cells: &mut [u32],
+)
+    requires { ⌜ Ready (now sizes) (now p) (now lens) (now flat) ⌝ }
+    requires { ⌜ IsPhysical d (physical (now sizes) (now p) (tilesFrom (now lens) (now flat))) ⌝ }
+    requires { ⌜ (prod (now sizes) ≤ length (now source)) × (padded (now sizes) (now p) (tilesFrom (now lens) (now flat)) ≤ length (now cells)) ⌝ }
+    ensures { λ _. ⌜ Stored (now (sizes .entry)) (now (p .entry)) (tilesFrom (now (lens .entry)) (now (flat .entry))) (now (source .entry)) (prod (now (sizes .entry))) (now (cells .entry)) (now (cells .exit)) ⌝ }
+{
+    let mut table = [0u64; 64];
+    let none = [0u64; 1];
+    rows::pack_with(
+        sizes,
+        p,
+        lens,
+        flat,
+        d,
+        &mut table,
+        source,
+        cells,
+        &none[..0],
+    );
+}
+
+// Unpacks with a short table, dividing plainly.
+fn unpack_few(
+    sizes: &[u64],
+    p: &[u64],
+    lens: &[usize],
+    flat: &[u64],
+    d: Physical,
+    cells: &[u32],
+    destination: &mut [u32],
+)
+    requires { ⌜ Ready (now sizes) (now p) (now lens) (now flat) ⌝ }
+    requires { ⌜ IsPhysical d (physical (now sizes) (now p) (tilesFrom (now lens) (now flat))) ⌝ }
+    requires { ⌜ (prod (now sizes) ≤ length (now destination)) × (padded (now sizes) (now p) (tilesFrom (now lens) (now flat)) ≤ length (now cells)) ⌝ }
+    ensures { λ _. ⌜ Loaded (now (sizes .entry)) (now (p .entry)) (tilesFrom (now (lens .entry)) (now (flat .entry))) (now (cells .entry)) (prod (now (sizes .entry))) (now (destination .entry)) (now (destination .exit)) ⌝ }
+{
+    let mut table = [0u64; 64];
+    let none = [0u64; 1];
+    rows::unpack_with(
+        sizes,
+        p,
+        lens,
+        flat,
+        d,
+        &mut table,
+        cells,
+        destination,
+        &none[..0],
+    );
+}
+
+// Packs with a table of 1,024 offsets, dividing by the multipliers.
+fn pack_many(
+    sizes: &[u64],
+    p: &[u64],
+    lens: &[usize],
+    flat: &[u64],
+    d: Physical,
+    source: &[u32],
+    cells: &mut [u32],
+)
+    requires { ⌜ Ready (now sizes) (now p) (now lens) (now flat) ⌝ }
+    requires { ⌜ IsPhysical d (physical (now sizes) (now p) (tilesFrom (now lens) (now flat))) ⌝ }
+    requires { ⌜ (prod (now sizes) ≤ length (now source)) × (padded (now sizes) (now p) (tilesFrom (now lens) (now flat)) ≤ length (now cells)) ⌝ }
+    ensures { λ _. ⌜ Stored (now (sizes .entry)) (now (p .entry)) (tilesFrom (now (lens .entry)) (now (flat .entry))) (now (source .entry)) (prod (now (sizes .entry))) (now (cells .entry)) (now (cells .exit)) ⌝ }
+{
+    let r = reciprocal::inner::multipliers();
+    let m = r.at;
+    let mut table = [0u64; 1024];
+    rows::pack_with(sizes, p, lens, flat, d, &mut table, source, cells, &m);
+}
+
+// Unpacks with a table of 1,024 offsets, dividing by the multipliers.
+fn unpack_many(
+    sizes: &[u64],
+    p: &[u64],
+    lens: &[usize],
+    flat: &[u64],
+    d: Physical,
+    cells: &[u32],
+    destination: &mut [u32],
+)
+    requires { ⌜ Ready (now sizes) (now p) (now lens) (now flat) ⌝ }
+    requires { ⌜ IsPhysical d (physical (now sizes) (now p) (tilesFrom (now lens) (now flat))) ⌝ }
+    requires { ⌜ (prod (now sizes) ≤ length (now destination)) × (padded (now sizes) (now p) (tilesFrom (now lens) (now flat)) ≤ length (now cells)) ⌝ }
+    ensures { λ _. ⌜ Loaded (now (sizes .entry)) (now (p .entry)) (tilesFrom (now (lens .entry)) (now (flat .entry))) (now (cells .entry)) (prod (now (sizes .entry))) (now (destination .entry)) (now (destination .exit)) ⌝ }
+{
+    let r = reciprocal::inner::multipliers();
+    let m = r.at;
+    let mut table = [0u64; 1024];
+    rows::unpack_with(sizes, p, lens, flat, d, &mut table, cells, destination, &m);
 }
 
 // Every element to its cell, 0 in padding; cells past the padded size stay.
@@ -36,15 +154,13 @@ pub fn pack_in(
     let d = tiling::physical_dims(sizes, p, lens, flat);
     let at = d.at;
     let len = d.len;
-    let size = radix::product(&at[..len]) as usize;
+    let size = radix::product(&at[..len]);
     let count = radix::product(sizes);
-    clear(cells, size);
-    let mut n: u64 = 0;
-    while n < count {
-        let o = tiling::offset_in(sizes, p, lens, flat, d, n) as usize;
-        let k = n as usize;
-        cells[o] = source[k];
-        n += 1;
+    clear_padding(cells, count, size);
+    if count < MANY {
+        pack_few(sizes, p, lens, flat, d, source, cells);
+    } else {
+        pack_many(sizes, p, lens, flat, d, source, cells);
     }
 }
 
@@ -62,12 +178,9 @@ pub fn unpack_in(
     ensures { λ _. ⌜ now (destination .exit) ≡ unpacked (now (sizes .entry)) (now (p .entry)) (tilesFrom (now (lens .entry)) (now (flat .entry))) (now (cells .entry)) (now (destination .entry)) ⌝ }
 {
     let d = tiling::physical_dims(sizes, p, lens, flat);
-    let count = radix::product(sizes);
-    let mut n: u64 = 0;
-    while n < count {
-        let o = tiling::offset_in(sizes, p, lens, flat, d, n) as usize;
-        let k = n as usize;
-        destination[k] = cells[o];
-        n += 1;
+    if radix::product(sizes) < MANY {
+        unpack_few(sizes, p, lens, flat, d, cells, destination);
+    } else {
+        unpack_many(sizes, p, lens, flat, d, cells, destination);
     }
 }

@@ -2,8 +2,8 @@ pub mod Tiling
 pub mod Entries
 pub mod OwnCells
 pub mod Sums
-pub mod Rows
 pub mod Reaches
+pub mod Rows
 pub mod Levels
 pub mod Undo
 pub mod Shaped

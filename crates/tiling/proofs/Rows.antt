@@ -3,14 +3,14 @@ use mathlib.Core.Path.{_≡_, refl, sym, ap, _∙_, subst}
 use mathlib.Core.Bool.{Bool, true, false, cond}
 use mathlib.Core.Logic.{⊎-elim, _⊎_, inl, inr}
 use Prim.Native.Nat.{ℕ, zero, suc, _+_, _-_, _*_, _/_, _%_, _<_, _≤_, min}
-use native.Mathlib.Nat.{zero-div, zero-mod, zero-mul, zero-add, one-mul, add-zero, add-mul, add-assoc, mul-assoc, mul-pos, mul-comm, div-one, div-add-mod', mod-lt, mod-le, div-eq-of-lt, mod-eq-of-lt, div-div-eq-div-mul, div-lt-iff-lt-mul, lt-div-mul-add, lt-of-mul-lt-mul-right, mul-add-div-right, mul-add-mod-self-right, mul-le-mul-right, suc-mul, not-suc-le-zero, le-of-suc-le-suc, min-le-left, min-le-right}
+use native.Mathlib.Nat.{zero-div, zero-mod, zero-mul, zero-add, one-mul, add-zero, add-mul, add-assoc, mul-assoc, mul-pos, mul-comm, div-one, div-add-mod', mod-lt, mod-le, div-eq-of-lt, mod-eq-of-lt, div-div-eq-div-mul, div-lt-iff-lt-mul, lt-div-mul-add, lt-of-mul-lt-mul-right, mul-add-div-right, mul-add-mod-self-right, mul-le-mul-right, suc-mul, not-suc-le-zero, le-of-suc-le-suc, min-le-left, min-le-right, min-eq-left, min-eq-right}
 use native.Mathlib.Omega.{arith}
 use mathlib.Core.List.{List, [], _∷_}
 use lib.Dec.{ltb, eqb}
 use lib.ListN.{length, getD, take, drop, length-map}
 use lib.Seq.{drop-cons}
 use borrow.Author.Tests.{ltb-true, ltb-false, eqb-true, eqb-false}
-use Rattle.radix.specs.Radix.{prod, digits, Sizes, Bounded}
+use Rattle.radix.specs.Radix.{prod, digits, rowMajor, Sizes, Bounded}
 use Rattle.radix.proofs.Lists.{le-or-lt}
 use Rattle.radix.proofs.Loops.{rest-pos}
 use Rattle.radix.proofs.Radix.{right-pos}
@@ -19,6 +19,7 @@ use Rattle.shape.proofs.Permutations.{permutation-is, free-apart}
 use Rattle.shape.specs.Dimensions.{Permutation, isPermutation, inRange, free}
 use Rattle.tiling.proofs.OwnCells.{Valid, getD-gather}
 use Rattle.tiling.proofs.Sums.{Added, Sums, added-row, sums-tile, sums-gather, index-first, index-second, index-third}
+use Rattle.tiling.proofs.Reaches.{reach-place}
 use Rattle.tiling.proofs.Tiling.{Pos, all, one, Tiles, flat, tiled, tile-length-index}
 use Rattle.tiling.specs.Row.{quotientReach, remainderReach, dividedReach, tiledReach, reached, rowRoom}
 use Rattle.tiling.specs.Tile.{tileIndex, indexOf, gather, physical, offsetAt, offset}
@@ -43,10 +44,31 @@ pub reached-most : (tss : List (List ℕ)) (n : ℕ) (f : Reach) → reached tss
 reached-most [] n f = omega arith
 reached-most (ts ∷ tss) n f = let a = reached-most tss (n + length ts) (tiledReach ts n f) in let b = tiled-most (ltb (f .place) (n - length ts)) (getD ts (f .place - (n - length ts)) 0) (length ts) f in omega (arith, a, b)
 
-pos-at : {ts : List ℕ} → Pos ts → (k : ℕ) → k < length ts → 0 < getD ts k 0
+pub pos-at : {ts : List ℕ} → Pos ts → (k : ℕ) → k < length ts → 0 < getD ts k 0
 pos-at all k l = absurd (not-suc-le-zero l)
 pos-at (one h p) zero l = h
 pos-at (one h p) (suc k) l = pos-at p k (le-of-suc-le-suc l)
+
+-- a row has at least one coordinate
+one-some : (b : Bool) (t m : ℕ) (f : Reach) → 0 < t → 0 < f .scale → 0 < f .most → (0 < one-of b t m f .scale) × (0 < one-of b t m f .most)
+one-some true t m f p s h = (mul-pos s p, h)
+one-some false t m f p s h = (s, lt-min {a = f .most} h (mul-pos s (omega (arith, mod-lt (f .coordinate) p))))
+  where
+    lt-min : {a b : ℕ} → 0 < a → 0 < b → 0 < min a b
+    lt-min {a} {b} x y = ⊎-elim (λ (q : a ≤ b). rw (min-eq-left q) x) (λ (q : b < a). let r : min a b ≡ b = min-eq-right (omega arith) in rw r y) (le-or-lt a b)
+
+tiled-some : (ts : List ℕ) (n : ℕ) (f : Reach) → Pos ts → length ts ≤ n → f .place < n → 0 < f .scale → 0 < f .most → (0 < tiledReach ts n f .scale) × (0 < tiledReach ts n f .most)
+tiled-some ts n f p h l s w = go (ltb (f .place) (n - length ts)) refl
+  where
+    go : (b : Bool) → ltb (f .place) (n - length ts) ≡ b → (0 < tiled-of b (getD ts (f .place - (n - length ts)) 0) (length ts) f .scale) × (0 < tiled-of b (getD ts (f .place - (n - length ts)) 0) (length ts) f .most)
+    go true e = (s, w)
+    go false e = one-some (eqb (f .coordinate % getD ts (f .place - (n - length ts)) 0) 0) (getD ts (f .place - (n - length ts)) 0) (length ts) f (pos-at p (f .place - (n - length ts)) (omega (arith, ltb-false (f .place) (n - length ts) e))) s w
+
+pub reached-some : (tss : List (List ℕ)) (n : ℕ) (f : Reach) → Tiles tss n → f .place < n → 0 < f .scale → 0 < f .most → 0 < reached tss n f .most
+reached-some [] n f w l s h = h
+reached-some (ts ∷ tss) n f (tiled p g w) l s h =
+    let a = tiled-some ts n f p g l s h in
+    reached-some tss (n + length ts) (tiledReach ts n f) w (reach-place ts n f g l) (a .0) (a .1)
 
 -- es has a row's first coordinate at the reach's place, fs has how far it is moved, in units of the scale, and gs is their sum
 pub record Moved (n x : ℕ) (f : Reach) (es fs gs : List ℕ) : Type 0 where
@@ -282,15 +304,24 @@ module _ (sizes p : List ℕ) (tss : List (List ℕ)) (v : Valid sizes p tss) (s
   step q =
       ap (λ (y : ℕ). y * P) (sym (div-add-mod' q d)) ∙ add-mul (q / d * d) (q % d) P ∙ ap (λ (y : ℕ). y + q % d * P) (mul-assoc (q / d) d P ∙ ap (λ (y : ℕ). q / d * y) (sym from-k))
 
+  module _ (q : ℕ) (inside : q * P < prod sizes) where
+    block : q / d < prod (take k sizes)
+    block = lt-of-mul-lt-mul-right (prod (drop k sizes)) (omega (arith, step q, prod-split k sizes, inside))
+
+    -- the block of step q ends among the elements
+    pub block-end : (q + (d - q % d)) * P ≤ prod sizes
+    block-end =
+        let z : q + (d - q % d) ≡ (q / d + 1) * d = omega (arith, div-add-mod' q d, mod-lt q positive) in
+        let y : (q / d + 1) * d * P ≡ (q / d + 1) * prod (drop k sizes) = mul-assoc (q / d + 1) d P ∙ ap (λ (o : ℕ). (q / d + 1) * o) (sym from-k) in
+        let w : (q / d + 1) * prod (drop k sizes) ≤ prod (take k sizes) * prod (drop k sizes) = mul-le-mul-right (prod (drop k sizes)) (omega (arith, block)) in
+        omega (arith, ap (λ (o : ℕ). o * P) z, prod-split k sizes)
+
   module _ (q b j : ℕ) (inside : q * P < prod sizes) (few : b ≤ d - q % d) (near : j / P < rowRoom tss (length p) i (q % d) b) where
     abbrev c : ℕ
     c = q % d
 
     abbrev start : Reach
     start = record { place = i; coordinate = c; scale = 1; most = b }
-
-    block : q / d < prod (take k sizes)
-    block = lt-of-mul-lt-mul-right (prod (drop k sizes)) (omega (arith, step q, prod-split k sizes, inside))
 
     within : c * P + j < prod (drop k sizes)
     within =
@@ -304,7 +335,7 @@ module _ (sizes p : List ℕ) (tss : List (List ℕ)) (v : Valid sizes p tss) (s
     pub row-offset : offset sizes p tss (q * P + j) ≡ offset sizes p tss (q * P) + offset sizes p tss j
     unfolding offset offsetAt
     row-offset =
-        let g : Begun k sizes c (q * P) j = subst (λ (n : ℕ). Begun k sizes c n j) (sym (step q)) (begun k sizes (q / d) c j l block within) in
+        let g : Begun k sizes c (q * P) j = subst (λ (n : ℕ). Begun k sizes c n j) (sym (step q)) (begun k sizes (q / d) c j l (block q inside) within) in
         let es = digits sizes (q * P) in
         let fs = digits sizes j in
         let gs = digits sizes (q * P + j) in
@@ -321,3 +352,22 @@ module _ (sizes p : List ℕ) (tss : List (List ℕ)) (v : Valid sizes p tss) (s
       where
         length-gather : (xs : List ℕ) → length (gather p xs) ≡ length p
         length-gather xs = length-map p (λ (o : ℕ). getD xs o 0)
+
+-- without a dimension the one element has offset 0
+index-none : (tss : List (List ℕ)) (es : List ℕ) → Tiles tss 0 → length es ≡ 0 → length (indexOf tss es) ≡ 0
+index-none [] es w e = e
+index-none (ts ∷ tss) es (tiled p h w) e =
+    let z : length ts ≡ 0 = omega (arith, h) in
+    index-none tss (tileIndex ts es) (subst (λ (m : ℕ). Tiles tss (0 + m)) z w) (tile-length-index ts es (omega (arith, z)) ∙ omega (arith, z, e))
+
+row-none : (ds es : List ℕ) → length es ≡ 0 → rowMajor ds es ≡ 0
+row-none [] es e = refl
+row-none (d ∷ ds) [] e = refl
+row-none (d ∷ ds) (x ∷ es) e = absurd (omega arith)
+
+pub offset-none : (sizes p : List ℕ) (tss : List (List ℕ)) → Valid sizes p tss → length sizes ≡ 0 → (n : ℕ) → offset sizes p tss n ≡ 0
+unfolding offset offsetAt
+offset-none sizes p tss v e n =
+    let z : length p ≡ 0 = v .rank ∙ e in
+    row-none (physical sizes p tss) (indexOf tss (gather p (digits sizes n)))
+    (index-none tss (gather p (digits sizes n)) (subst (λ (m : ℕ). Tiles tss m) z (v .tiles)) (length-map p (λ (o : ℕ). getD (digits sizes n) o 0) ∙ z))

@@ -1,168 +1,128 @@
--- `pack::loops::pack_in` meets its contract. The invariant: with the first n elements stored, a cell has its element where that is below n, and 0 otherwise. Assumes nothing.
+-- `pack::loops::pack_in` meets its contract. Assumes nothing.
 use mathlib.Core.Path.{_≡_, refl, sym, ap, _∙_, subst}
 use mathlib.Core.List.{List}
 use Prim.Native.Nat.{ℕ, _≤_, _<_, _-_, _+_, min}
 use native.Mathlib.Nat.{min-eq-left}
 use native.Mathlib.Omega.{arith}
 use denote.Ref.{now}
-use lib.ListN.{length, take, getD, set, length-set}
-use borrow.Author.Count.{falls}
+use lib.ListN.{length, take}
 use lib.Seq.{length-take-le}
 use borrow.Author.Needs.{needs}
 use Rattle.radix.specs.Radix.{maxCount, prod, Sizes}
 use Rattle.tiling.specs.Tile.{maxPhysical, tilesFrom, padded}
-use Rattle.tiling.proofs.OwnCells.{offset-below}
 use Rattle.tiling.proofs.Shaped.{shaped-valid, shaped-under, shaped-small}
-use Rattle.pack.proofs.Packing.{partly, cleared, pack-none, pack-next, pack-all}
+use Rattle.pack.specs.Pack.{packed}
+use Rattle.pack.specs.Rows.{Stored, startOf}
+use Rattle.pack.proofs.Packing.{pack-whole}
 use Rattle.pack.proofs.loops.pack_in.Statement.{statement}
 use Rattle.pack.proofs.loops.pack_in.Tie as tie
 
-abbrev Inv-loop : tie.InvT-loop
-Inv-loop sizes p lens flat source cells₀ d len size count n₀ cells n = (n ≤ count) × (length cells ≡ length cells₀) × ((k : ℕ) → getD cells k 0 ≡ partly sizes p (tilesFrom lens flat) source cells₀ n k)
+-- where the function starts
+abbrev start : tie.After-physical-dims → tie.Start
+start c = c .before .before .before .before .before .before .before
 
-abbrev μ-loop : tie.MeasureT-loop
-μ-loop sizes p lens flat source cells₀ d len size count n₀ cells n = count - n
-
--- where the function starts, from three places
-abbrev startD : tie.After-physical-dims Inv-loop μ-loop → tie.Start Inv-loop μ-loop
-startD c = c .before .before .before .before .before .before .before
-
-abbrev dimsL : tie.At-loop Inv-loop μ-loop → tie.After-physical-dims Inv-loop μ-loop
-dimsL c = c .before .before .before .before .before .before .before .before .before
-
-abbrev startL : tie.At-loop Inv-loop μ-loop → tie.Start Inv-loop μ-loop
-startL c = startD (dimsL c)
-
-abbrev Tss : tie.Start Inv-loop μ-loop → List (List ℕ)
+abbrev Tss : tie.Start → List (List ℕ)
 Tss s = tilesFrom (now (s .args .lens)) (now (s .args .flat))
 
-abbrev Size : tie.Start Inv-loop μ-loop → ℕ
+abbrev Size : tie.Start → ℕ
 Size s = padded (now (s .args .sizes)) (now (s .args .p)) (Tss s)
 
-long : (c : tie.After-physical-dims Inv-loop μ-loop) → length (take (c .physical-dims .result .len) (c .physical-dims .result .at)) ≡ c .physical-dims .result .len
+long : (c : tie.After-physical-dims) → length (take (c .physical-dims .result .len) (c .physical-dims .result .at)) ≡ c .physical-dims .result .len
 long c =
     let e : length (c .physical-dims .result .at) ≡ maxPhysical = search needs in
     length-take-le (c .physical-dims .result .len) (c .physical-dims .result .at) (omega (arith, c .physical-dims .ensures .fits))
 
 -- the two products are exact
-size : (c : tie.After-product Inv-loop μ-loop) → c .product .result ≡ Size (startD (c .before .before .before))
+size : (c : tie.After-product) → c .product .result ≡ Size (start (c .before .before .before))
 unfolding padded
 size c =
     let d = c .before .before .before in
-    c .product .ensures ∙ ap (λ (l : List ℕ). min (prod l) (maxCount + 1)) (d .physical-dims .ensures .same) ∙ min-eq-left (omega (arith, startD d .pre .0 .room))
+    c .product .ensures ∙ ap (λ (l : List ℕ). min (prod l) (maxCount + 1)) (d .physical-dims .ensures .same) ∙ min-eq-left (omega (arith, start d .pre .0 .room))
 
-count : (c : tie.After-product2 Inv-loop μ-loop) → c .product2 .result ≡ prod (now (startD (c .before .before .before .before) .args .sizes))
-count c = c .product2 .ensures ∙ min-eq-left (omega (arith, startD (c .before .before .before .before) .pre .0 .shaped .count))
+count : (c : tie.After-product2) → c .product2 .result ≡ prod (now (start (c .before .before .before .before) .args .sizes))
+count c = c .product2 .ensures ∙ min-eq-left (omega (arith, start (c .before .before .before .before) .pre .0 .shaped .count))
 
-physical-dims-requires : tie.Need-physical-dims-requires Inv-loop μ-loop
+physical-dims-requires : tie.Need-physical-dims-requires
 physical-dims-requires c κs =
     let r = c .before .before .before .before .before .before .pre .0 .shaped in
     ((omega (arith, r .rank, r .few), r .tiles), (shaped-under r _ refl, (r .small, r .levels)))
 
-array-share-prefix-at : tie.Need-array-share-prefix-at Inv-loop μ-loop
+array-share-prefix-at : tie.Need-array-share-prefix-at
 array-share-prefix-at c =
     let e : length (c .before .physical-dims .result .at) ≡ maxPhysical = search needs in
     omega (arith, c .before .physical-dims .ensures .fits)
 
-slice-aggregate-product : tie.Need-slice-aggregate-product Inv-loop μ-loop
+slice-aggregate-product : tie.Need-slice-aggregate-product
 slice-aggregate-product c = sym (long (c .before .before))
 
-product-requires : tie.Need-product-requires Inv-loop μ-loop
-product-requires c κs = subst Sizes (sym (c .before .before .physical-dims .ensures .same)) (shaped-small (startD (c .before .before) .pre .0 .shaped))
+product-requires : tie.Need-product-requires
+product-requires c κs = subst Sizes (sym (c .before .before .physical-dims .ensures .same)) (shaped-small (start (c .before .before) .pre .0 .shaped))
 
-product-requires-2 : tie.Need-product-requires-2 Inv-loop μ-loop
-product-requires-2 c κs = startD (c .before .before .before) .pre .0 .shaped .small
+product-requires-2 : tie.Need-product-requires-2
+product-requires-2 c κs = start (c .before .before .before) .pre .0 .shaped .small
 
-clear-requires : tie.Need-clear-requires Inv-loop μ-loop
-clear-requires c κs = omega (arith, size (c .before .before), startD (c .before .before .before .before .before) .pre .1 .1)
+clear-padding-requires : tie.Need-clear-padding-requires
+clear-padding-requires c κs = omega (arith, size (c .before .before), start (c .before .before .before .before .before) .pre .1 .1)
 
--- the list where the loop begins is the cleared one
-base : (c : tie.After-clear Inv-loop μ-loop) → c .clear .last .0 ≡ cleared (Size (startD (c .before .before .before .before .before .before))) (now (startD (c .before .before .before .before .before .before) .args .cells))
-base c = c .clear .ensures ∙ ap (λ (m : ℕ). cleared m (now (startD (c .before .before .before .before .before .before) .args .cells))) (size (c .before .before .before))
+-- the cells after clearing are long enough, and where every element is stored into them, they are packed
+ready : (e : tie.After-clear-padding) → Size (start (e .before .before .before .before .before .before)) ≤ length (e .clear-padding .last .0)
+ready e = let s = start (e .before .before .before .before .before .before) in omega (arith, s .pre .1 .1, e .clear-padding .kept .0)
 
-loop-holds : tie.Need-loop-holds Inv-loop μ-loop
-loop-holds c =
-    let k = c .before .before in
-    let s = startD (k .before .before .before .before .before .before) in
-    (search needs, refl, pack-none (now (s .args .sizes)) (now (s .args .p)) (Tss s) (now (s .args .source)) (k .clear .last .0) (now (s .args .cells)) (base k))
+whole : (e : tie.After-clear-padding) (out : List ℕ) → length out ≡ length (e .clear-padding .last .0)
+    → Stored (now (start (e .before .before .before .before .before .before) .args .sizes)) (now (start (e .before .before .before .before .before .before) .args .p)) (Tss (start (e .before .before .before .before .before .before))) (now (start (e .before .before .before .before .before .before) .args .source)) (prod (now (start (e .before .before .before .before .before .before) .args .sizes))) (e .clear-padding .last .0) out
+    → out ≡ packed (now (start (e .before .before .before .before .before .before) .args .sizes)) (now (start (e .before .before .before .before .before .before) .args .p)) (Tss (start (e .before .before .before .before .before .before))) (now (start (e .before .before .before .before .before .before) .args .source)) (now (start (e .before .before .before .before .before .before) .args .cells))
+whole e out l stored =
+    let n = e .before .before in
+    let s = start (n .before .before .before .before) in
+    let cells = now (s .args .cells) in
+    let first : e .clear-padding .last .0 ≡ startOf (prod (now (s .args .sizes))) (Size s) cells =
+    e .clear-padding .ensures ∙ ap (λ (m : ℕ). startOf m (n .before .product .result) cells) (count n) ∙ ap (λ (m : ℕ). startOf (prod (now (s .args .sizes))) m cells) (size (n .before)) in
+    pack-whole (now (s .args .sizes)) (now (s .args .p)) (Tss s) (shaped-valid (s .pre .0 .shaped)) (now (s .args .source)) cells out (l ∙ e .clear-padding .kept .0)
+    (subst (λ (x : List ℕ). Stored (now (s .args .sizes)) (now (s .args .p)) (Tss s) (now (s .args .source)) (prod (now (s .args .sizes))) x out) first stored)
 
--- in the loop: n is an element
-below : (c : tie.In-loop Inv-loop μ-loop) → c .before .loop .n < prod (now (startL (c .before) .args .sizes))
-below c = subst (λ (m : ℕ). c .before .loop .n < m) (count (c .before .before .before .before .before .before)) (c .loop-test .taken)
+pack-few-requires : tie.Need-pack-few-requires
+pack-few-requires c κs =
+    let e = c .before .before .before .before in
+    let d = e .before .before .before .before .before .before in
+    let s = start d in
+    (s .pre .0, (d .physical-dims .ensures, (s .pre .1 .0, ready e)))
 
-offset-in-requires : tie.Need-offset-in-requires Inv-loop μ-loop
-offset-in-requires c κs = (startL (c .before) .pre .0, (dimsL (c .before) .physical-dims .ensures, below c))
+pack-many-requires : tie.Need-pack-many-requires
+pack-many-requires c κs =
+    let e = c .before .before .before .before in
+    let d = e .before .before .before .before .before .before in
+    let s = start d in
+    (s .pre .0, (d .physical-dims .ensures, (s .pre .1 .0, ready e)))
 
--- the cell is inside
-inside : (c : tie.After-offset-in Inv-loop μ-loop) → c .offset-in .result < length (c .before .before .loop .cells)
-inside c =
-    let l = c .before .before in
-    let s = startL l in
-    omega (arith, c .offset-in .ensures, offset-below (now (s .args .sizes)) (now (s .args .p)) (Tss s) (shaped-valid (s .pre .0 .shaped)) (l .loop .n) (below (c .before)), s .pre .1 .1, l .loop .inv .1, l .before .before .before .clear .kept .0)
+same-length : tie.Need-same-length
+same-length c = search needs
 
-mul-cells : tie.Need-mul-cells Inv-loop μ-loop
-mul-cells c = omega (arith, below (c .before), startL (c .before .before) .pre .0 .shaped .count)
-
-shared-slice-read-cells : tie.Need-shared-slice-read-cells Inv-loop μ-loop
-shared-slice-read-cells c = omega (arith, below (c .before .before), startL (c .before .before .before) .pre .1 .0)
-
-mul-cells-2 : tie.Need-mul-cells-2 Inv-loop μ-loop
-mul-cells-2 c = omega (arith, c .before .offset-in .ensures, offset-below (now (startL (c .before .before .before) .args .sizes)) (now (startL (c .before .before .before) .args .p)) (Tss (startL (c .before .before .before))) (shaped-valid (startL (c .before .before .before) .pre .0 .shaped)) (c .before .before .before .loop .n) (below (c .before .before)), startL (c .before .before .before) .pre .0 .room)
-
-slice-write-cells : tie.Need-slice-write-cells Inv-loop μ-loop
-slice-write-cells c = inside (c .before)
-
-add-n : tie.Need-add-n Inv-loop μ-loop
-add-n c = omega (arith, below (c .before .before), startL (c .before .before .before) .pre .0 .shaped .count)
-
-loop-less : tie.Need-loop-less Inv-loop μ-loop
-loop-less c = falls (c .before .before .before .before .before .before .before .before .product2 .result) (c .before .before .before .loop .n) (c .before .before .loop-test .taken)
-
-loop-again : tie.Need-loop-again Inv-loop μ-loop
-loop-again c =
-    let l = c .before .before .before in
-    let s = startL l in
-    let o = c .before .offset-in in
-    let n = l .loop .n in (
-      omega (arith, c .before .before .loop-test .taken),
-      length-set (l .loop .cells) (o .result) (getD (now (s .args .source)) n 0) ∙ l .loop .inv .1,
-      λ k. ap (λ (j : ℕ). getD (set (l .loop .cells) j (getD (now (s .args .source)) n 0)) k 0) (o .ensures)
-          ∙ pack-next (now (s .args .sizes)) (now (s .args .p)) (Tss s) (now (s .args .source)) (l .before .before .before .clear .last .0) (shaped-valid (s .pre .0 .shaped)) (l .loop .cells) n (below (c .before .before))
-          (subst (λ (j : ℕ). j < length (l .loop .cells)) (o .ensures) (inside (c .before))) k (l .loop .inv .2 k),
-    )
-
-same-length : tie.Need-same-length Inv-loop μ-loop
-same-length c = c .before .loop .inv .1 ∙ c .before .before .before .before .clear .kept .0
-
-returns : tie.Need-returns Inv-loop μ-loop
+returns : tie.Need-returns
 returns c =
-    let l = c .before in
-    let s = startL l in
-    let e : l .loop .n ≡ prod (now (s .args .sizes)) = omega (arith, l .loop .inv .0, c .loop-test .left, count (l .before .before .before .before .before)) in
-    pack-all (now (s .args .sizes)) (now (s .args .p)) (Tss s) (now (s .args .source)) (l .before .before .before .clear .last .0) (now (s .args .cells)) (l .loop .cells) (base (l .before .before .before))
-    (l .loop .inv .1 ∙ l .before .before .before .clear .kept .0)
-    (λ k. l .loop .inv .2 k ∙ ap (λ (m : ℕ). partly (now (s .args .sizes)) (now (s .args .p)) (Tss s) (now (s .args .source)) (l .before .before .before .clear .last .0) m k) e)
+    let k = c .before .before in
+    whole (k .before .before .before .before .before) (k .pack-few .last .1 .1 .1 .1 .1 .1 .0) (k .pack-few .kept .1 .1 .1 .1 .1 .1 .0) (k .pack-few .ensures)
+
+same-length-2 : tie.Need-same-length-2
+same-length-2 c = search needs
+
+returns-2 : tie.Need-returns-2
+returns-2 c =
+    let k = c .before .before in
+    whole (k .before .before .before .before .before) (k .pack-many .last .1 .1 .1 .1 .1 .1 .0) (k .pack-many .kept .1 .1 .1 .1 .1 .1 .0) (k .pack-many .ensures)
 
 pub pack-in-spec : {M : Type 1} → statement M
 pack-in-spec =
     tie.close
     (tie.spec
-    Inv-loop
-    μ-loop
     physical-dims-requires
     array-share-prefix-at
     slice-aggregate-product
     product-requires
     product-requires-2
-    clear-requires
-    loop-holds
-    offset-in-requires
-    mul-cells
-    shared-slice-read-cells
-    mul-cells-2
-    slice-write-cells
-    add-n
-    loop-less
-    loop-again
+    clear-padding-requires
+    pack-few-requires
+    pack-many-requires
     same-length
-    returns)
+    returns
+    same-length-2
+    returns-2)

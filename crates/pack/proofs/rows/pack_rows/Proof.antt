@@ -1,0 +1,169 @@
+-- `pack::rows::pack_rows` meets its contract. The invariant: the elements of the first q steps are stored. Assumes nothing.
+use borrow.Author.Needs.{needs}
+use mathlib.Core.Path.{_≡_, refl, sym, ap, _∙_, subst}
+use mathlib.Core.List.{List}
+use Prim.Native.Nat.{ℕ, _+_, _-_, _*_, _<_, _≤_}
+use native.Mathlib.Nat.{zero-mul, add-mul, mul-le-mul-right, le-mul-of-pos-right}
+use native.Mathlib.Omega.{arith}
+use denote.Ref.{now}
+use lib.ListN.{length, getD, take}
+use Rattle.radix.specs.Radix.{prod}
+use Rattle.tiling.specs.Tile.{tilesFrom, offset}
+use Rattle.tiling.proofs.OwnCells.{Valid, offset-below}
+use Rattle.tiling.proofs.Shaped.{shaped-valid}
+use Rattle.pack.specs.Rows.{Stored, scattered, IsCut, IsRow, offsetsFrom}
+use Rattle.pack.proofs.Cuts.{step-below, steps-below, row-table, table-length}
+use Rattle.pack.proofs.Walking.{store-none, store-row}
+use Rattle.pack.proofs.rows.pack_rows.Statement.{statement}
+use Rattle.pack.proofs.rows.pack_rows.Tie as tie
+
+abbrev Inv-loop : tie.InvT-loop
+Inv-loop sizes p lens flat d g table source cells₀ m steps span q₀ cells q = (q ≤ g .steps) × (length cells ≡ length cells₀) × Stored sizes p (tilesFrom lens flat) source (q * g .span) cells₀ cells
+
+abbrev μ-loop : tie.MeasureT-loop
+μ-loop sizes p lens flat d g table source cells₀ m steps span q₀ cells q = g .steps - q
+
+abbrev start : tie.At-loop Inv-loop μ-loop → tie.Start Inv-loop μ-loop
+start c = c .before .before .before .before .before .before .before .before .before
+
+abbrev Tss : tie.Start Inv-loop μ-loop → List (List ℕ)
+Tss s = tilesFrom (now (s .args .lens)) (now (s .args .flat))
+
+loop-holds : tie.Need-loop-holds Inv-loop μ-loop
+loop-holds c =
+    let s = c .before .before .before .before .before .before .before .before in
+    let cells = now (s .args .cells) in
+    (search needs, refl, subst (λ (n : ℕ). Stored (now (s .args .sizes)) (now (s .args .p)) (Tss s) (now (s .args .source)) n cells cells) (sym (zero-mul (s .args .g .span))) (store-none (now (s .args .sizes)) (now (s .args .p)) (Tss s) (now (s .args .source)) cells))
+
+row-steps-requires : tie.Need-row-steps-requires Inv-loop μ-loop
+row-steps-requires c κs = let s = start (c .before) in (s .pre .0, (s .pre .1 .0, (s .pre .1 .1 .1 .1 .0, c .loop-test .taken)))
+
+-- the row, its first element and its part of the table
+valid : (c : tie.In-loop Inv-loop μ-loop) → Valid (now (start (c .before) .args .sizes)) (now (start (c .before) .args .p)) (Tss (start (c .before)))
+valid c = shaped-valid (start (c .before) .pre .1 .0 .shaped)
+
+cut : (c : tie.In-loop Inv-loop μ-loop) → IsCut (start (c .before) .args .g) (now (start (c .before) .args .sizes)) (now (start (c .before) .args .p))
+cut c = start (c .before) .pre .1 .1 .1 .1 .0
+
+abbrev Q : tie.In-loop Inv-loop μ-loop → ℕ
+Q c = c .before .loop .q
+
+abbrev Span : tie.In-loop Inv-loop μ-loop → ℕ
+Span c = start (c .before) .args .g .span
+
+abbrev R : tie.After-row-steps Inv-loop μ-loop → ℕ
+R c = c .row-steps .result
+
+below : (c : tie.In-loop Inv-loop μ-loop) → Q c * Span c < prod (now (start (c .before) .args .sizes))
+below c =
+    let s = start (c .before) in
+    step-below (now (s .args .sizes)) (now (s .args .p)) (Tss s) (valid c) (s .pre .1 .0 .shaped .small) (s .args .g) (cut c) (Q c) (c .loop-test .taken)
+
+mul-n : tie.Need-mul-n Inv-loop μ-loop
+mul-n c = let i = c .before in omega (arith, below i, start (i .before) .pre .1 .0 .shaped .count)
+
+offset-by-requires : tie.Need-offset-by-requires Inv-loop μ-loop
+offset-by-requires c κs = let i = c .before in let s = start (i .before) in (s .pre .0, (s .pre .1 .0, (s .pre .1 .1 .0, below i)))
+
+-- the row ends among the elements
+room : (c : tie.After-row-steps Inv-loop μ-loop) → Q (c .before) * Span (c .before) + R c * Span (c .before) ≤ prod (now (start (c .before .before) .args .sizes))
+room c =
+    let i = c .before in
+    let s = start (i .before) in
+    omega (arith, add-mul (Q i) (R c) (Span i), steps-below (now (s .args .sizes)) (now (s .args .p)) (Tss s) (valid i) (s .pre .1 .0 .shaped .small) (s .args .g) (cut i) (Q i + R c) (c .row-steps .ensures .inside))
+
+mul-len : tie.Need-mul-len Inv-loop μ-loop
+mul-len c = let r = c .before in omega (arith, room r, start (r .before .before) .pre .1 .0 .shaped .count)
+
+abbrev Part : tie.After-row-steps Inv-loop μ-loop → List ℕ
+Part c = take (R c * Span (c .before)) (now (start (c .before .before) .args .table))
+
+part : (c : tie.After-row-steps Inv-loop μ-loop) → Part c ≡ take (R c * Span (c .before)) (offsetsFrom (now (start (c .before .before) .args .sizes)) (now (start (c .before .before) .args .p)) (Tss (start (c .before .before))) (start (c .before .before) .args .g .wide * Span (c .before)))
+part c = ap (take (R c * Span (c .before))) (start (c .before .before) .pre .1 .1 .1 .1 .1)
+
+long : (c : tie.After-row-steps Inv-loop μ-loop) → length (Part c) ≡ R c * Span (c .before)
+long c =
+    let i = c .before in
+    let s = start (i .before) in
+    ap length (part c) ∙ table-length (now (s .args .sizes)) (now (s .args .p)) (Tss s) (valid i) (s .pre .1 .0 .shaped .small) (s .args .g) (cut i) (Q i) (R c) (c .row-steps .ensures)
+
+slice-aggregate-scatter : tie.Need-slice-aggregate-scatter Inv-loop μ-loop
+slice-aggregate-scatter c = sym (long (c .before .before))
+
+-- the cell of a place of the row
+same : (c : tie.After-offset-by Inv-loop μ-loop) (j : ℕ) → j < length (Part (c .before))
+    → c .offset-by .result + getD (Part (c .before)) j 0 ≡ offset (now (start (c .before .before .before) .args .sizes)) (now (start (c .before .before .before) .args .p)) (Tss (start (c .before .before .before))) (Q (c .before .before) * Span (c .before .before) + j)
+same c j l =
+    let r = c .before in
+    let i = r .before in
+    let s = start (i .before) in
+    ap (λ (x : ℕ). x + getD (Part r) j 0) (c .offset-by .ensures)
+    ∙ ap (λ (x : List ℕ). offset (now (s .args .sizes)) (now (s .args .p)) (Tss s) (Q i * Span i) + getD x j 0) (part r)
+    ∙ row-table (now (s .args .sizes)) (now (s .args .p)) (Tss s) (valid i) (s .pre .1 .0 .shaped .small) (s .args .g) (cut i) (Q i) (R r) (r .row-steps .ensures) j (omega (arith, long r, l))
+
+scatter-requires : tie.Need-scatter-requires Inv-loop μ-loop
+scatter-requires c κs =
+    let o = c .before .before in
+    let r = o .before in
+    let i = r .before in
+    let s = start (i .before) in (
+      omega (arith, room r, long r, s .pre .1 .1 .1 .0 .0),
+      λ j l. omega (arith, same o j l, offset-below (now (s .args .sizes)) (now (s .args .p)) (Tss s) (valid i) (Q i * Span i + j) (omega (arith, room r, long r, l)), s .pre .1 .1 .1 .0 .1, i .before .loop .inv .1),
+    )
+
+add-q : tie.Need-add-q Inv-loop μ-loop
+add-q c =
+    let r = c .before .before .before .before .before .before in
+    let i = r .before in
+    let s = start (i .before) in
+    omega (arith, r .row-steps .ensures .inside, cut i .count, le-mul-of-pos-right (s .args .g .steps) (cut i .span), s .pre .1 .0 .shaped .count)
+
+loop-less : tie.Need-loop-less Inv-loop μ-loop
+loop-less c = let r = c .before .before .before .before .before .before in omega (arith, r .row-steps .ensures .some, r .row-steps .ensures .inside)
+
+loop-again : tie.Need-loop-again Inv-loop μ-loop
+loop-again c =
+    let k = c .before .before in
+    let o = k .before .before .before in
+    let r = o .before in
+    let i = r .before in
+    let l = i .before in
+    let s = start l in
+    let cells = now (s .args .cells) in
+    let n : Q i * Span i + length (Part r) ≡ (Q i + R r) * Span i = omega (arith, long r, add-mul (Q i) (R r) (Span i)) in
+    let e = store-row (now (s .args .sizes)) (now (s .args .p)) (Tss s) (now (s .args .source)) cells (valid i) (o .offset-by .result) (Part r) (Q i * Span i) (l .loop .cells) (omega (arith, room r, long r)) (s .pre .1 .1 .1 .0 .1) (same o) (l .loop .inv .1, l .loop .inv .2) in (
+      r .row-steps .ensures .inside,
+      k .scatter .kept .1 .1 .1 .1 .0 ∙ l .loop .inv .1,
+      subst (λ (x : List ℕ). Stored (now (s .args .sizes)) (now (s .args .p)) (Tss s) (now (s .args .source)) ((Q i + R r) * Span i) cells x) (sym (k .scatter .ensures))
+          (subst (λ (x : ℕ). Stored (now (s .args .sizes)) (now (s .args .p)) (Tss s) (now (s .args .source)) x cells (scattered (now (s .args .source)) (o .offset-by .result) (Part r) (Q i * Span i) (l .loop .cells))) n (e .1)),
+    )
+
+same-length : tie.Need-same-length Inv-loop μ-loop
+same-length c = c .before .loop .inv .1
+
+returns : tie.Need-returns Inv-loop μ-loop
+returns c =
+    let l = c .before .loop in
+    let s = start (c .before) in
+    let q : l .q ≡ s .args .g .steps = omega (arith, l .inv .0, c .loop-test .left) in
+    let e : l .q * s .args .g .span ≡ prod (now (s .args .sizes)) = ap (λ (x : ℕ). x * s .args .g .span) q ∙ s .pre .1 .1 .1 .1 .0 .count in
+    subst (λ (n : ℕ). Stored (now (s .args .sizes)) (now (s .args .p)) (Tss s) (now (s .args .source)) n (now (s .args .cells)) (l .cells)) e (l .inv .2)
+
+pub pack-rows-spec : {M : Type 1} → statement M
+pack-rows-spec =
+    tie.close
+    (tie.spec
+    Inv-loop
+    μ-loop
+    loop-holds
+    row-steps-requires
+    mul-n
+    offset-by-requires
+    mul-len
+    slice-aggregate-scatter
+    scatter-requires
+    add-q
+    loop-less
+    loop-again
+    same-length
+    returns)
