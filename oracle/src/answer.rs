@@ -2,6 +2,7 @@
 
 use crate::buffer::{load, pack, store, unpack};
 use crate::compose::compose;
+use crate::division::{multiplier, quotient};
 use crate::fold::fold;
 use crate::grid::grid;
 use crate::layout::{padded_size, Layout};
@@ -67,6 +68,12 @@ fn answer_request(request: &Request) -> String {
             layout,
             question,
         } => answer_question(shape, *column, layout, question),
+        Request::Multiplier { divisor } => {
+            multiplier(*divisor).map(|entry| format!("multiplier {entry}"))
+        }
+        Request::Quotient { number, divisor } => {
+            quotient(*number, *divisor).map(|quotient| format!("quotient {quotient}"))
+        }
         Request::Route(route) => best_plan(route).map(|plan| plan_text(&plan)),
         Request::Eval { map, point } => {
             evaluate(map, point).map(|values| format!("value {}", tuple(&values)))

@@ -1,6 +1,7 @@
 //! Brute force: small cases compared with a second reading of the documents.
 
 use crate::brute_compose::brute_compose;
+use crate::brute_divisions::brute_divisions;
 use crate::brute_maps::brute_maps;
 use crate::brute_operations::brute_operations;
 use crate::brute_routes::brute_routes;
@@ -35,6 +36,7 @@ pub fn brute() -> Result<u64, String> {
     brute_maps(&mut tally)?;
     brute_compose(&mut tally)?;
     brute_operations(&mut tally)?;
+    brute_divisions(&mut tally)?;
     Ok(tally.comparisons)
 }
 

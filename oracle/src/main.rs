@@ -3,12 +3,14 @@
 mod answer;
 mod brute;
 mod brute_compose;
+mod brute_divisions;
 mod brute_maps;
 mod brute_operations;
 mod brute_routes;
 mod buffer;
 mod compose;
 mod damage;
+mod division;
 mod expression_reader;
 mod fold;
 mod fold_rules;
@@ -30,6 +32,7 @@ mod operation_rule;
 mod pad_reshape_transpose;
 mod random;
 mod random_compose_lines;
+mod random_divisions;
 mod random_expressions;
 mod random_kinds;
 mod random_map_lines;
@@ -61,6 +64,8 @@ mod tests;
 #[cfg(test)]
 mod tests_compose;
 #[cfg(test)]
+mod tests_divisions;
+#[cfg(test)]
 mod tests_maps;
 #[cfg(test)]
 mod tests_operations;
@@ -71,6 +76,7 @@ mod vectors;
 mod vectors_buffers;
 mod vectors_composition_counts;
 mod vectors_compositions;
+mod vectors_divisions;
 mod vectors_documents;
 mod vectors_grids;
 mod vectors_layouts;
@@ -97,7 +103,7 @@ use std::process::ExitCode;
 use random_kinds::{random_lines, Kind};
 
 const USAGE: &str =
-    "usage: oracle answer | random SEED N [layout | route | map | compose | operation] | vectors [DIR] | brute";
+    "usage: oracle answer | random SEED N [layout | route | map | compose | operation | division] | vectors [DIR] | brute";
 
 /// Where `vectors` writes when no directory is given.
 const VECTORS_DIRECTORY: &str = "crates/zungatewi";

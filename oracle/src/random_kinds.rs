@@ -1,7 +1,8 @@
-//! Random request lines by kind: layouts, routes, maps, compositions, operations, or a mix of them.
+//! Random request lines by kind: layouts, routes, maps, compositions, operations, divisions, or a mix of them.
 
 use crate::random::Random;
 use crate::random_compose_lines::random_compose_line;
+use crate::random_divisions::random_division_line;
 use crate::random_map_lines::random_map_line;
 use crate::random_operation_lines::random_operation_line;
 use crate::random_requests::random_line;
@@ -14,10 +15,11 @@ pub enum Kind {
     Map,
     Compose,
     Operation,
+    Division,
 }
 
 /// The kinds of a mix; each stands as often as its share is.
-const MIX: [Kind; 8] = [
+const MIX: [Kind; 9] = [
     Kind::Layout,
     Kind::Layout,
     Kind::Layout,
@@ -26,6 +28,7 @@ const MIX: [Kind; 8] = [
     Kind::Map,
     Kind::Compose,
     Kind::Operation,
+    Kind::Division,
 ];
 
 impl Kind {
@@ -36,6 +39,7 @@ impl Kind {
             "map" => Some(Kind::Map),
             "compose" => Some(Kind::Compose),
             "operation" => Some(Kind::Operation),
+            "division" => Some(Kind::Division),
             _ => None,
         }
     }
@@ -53,6 +57,7 @@ pub fn random_lines(seed: u64, count: u64, kind: Option<Kind>) -> Vec<u8> {
             Kind::Map => random_map_line(&mut random),
             Kind::Compose => random_compose_line(&mut random),
             Kind::Operation => random_operation_line(&mut random),
+            Kind::Division => random_division_line(&mut random),
         });
         lines.push(b'\n');
     }

@@ -30,6 +30,13 @@ pub enum Request {
         layout: Layout,
         question: Question,
     },
+    Multiplier {
+        divisor: u64,
+    },
+    Quotient {
+        number: u64,
+        divisor: u64,
+    },
     Route(Route),
     Eval {
         map: Map,
@@ -93,6 +100,13 @@ pub fn read_request(line: &[u8]) -> Result<Request, Unreadable> {
         b"point" => Request::Point {
             shape: reader.shape()?,
             element: reader.unsigned()?,
+        },
+        b"multiplier" => Request::Multiplier {
+            divisor: reader.unsigned()?,
+        },
+        b"quotient" => Request::Quotient {
+            number: reader.unsigned()?,
+            divisor: reader.unsigned()?,
         },
         b"route" => Request::Route(route(&mut reader)?),
         b"eval" => eval(&mut reader)?,

@@ -9,6 +9,7 @@ use crate::random_kinds::{random_lines, Kind};
 use crate::vectors_buffers::BUFFERS;
 use crate::vectors_composition_counts::composition_counts;
 use crate::vectors_compositions::COMPOSITIONS;
+use crate::vectors_divisions::{around_reached, DIVISIONS};
 use crate::vectors_documents::{documents, formats};
 use crate::vectors_grids::GRIDS;
 use crate::vectors_layouts::LAYOUTS;
@@ -43,6 +44,7 @@ const RANDOM_ROUTES: u64 = 2000;
 const RANDOM_MAPS: u64 = 4000;
 const RANDOM_COMPOSITIONS: u64 = 3000;
 const RANDOM_OPERATIONS: u64 = 4000;
+const RANDOM_DIVISIONS: u64 = 2000;
 
 /// Writes both files into a directory.
 pub fn write_vectors(directory: &str) -> io::Result<()> {
@@ -61,6 +63,7 @@ fn requests() -> Vec<u8> {
     maps(&mut bytes);
     compositions(&mut bytes);
     operations(&mut bytes);
+    divisions(&mut bytes);
     bytes.extend(b"# a last line that ends at the end of the input\n");
     bytes.extend(b"offset [3,5] {1,0:T(2,2)} (2,3)");
     bytes
@@ -124,6 +127,17 @@ fn operations(bytes: &mut Vec<u8>) {
     long_operations(&mut text);
     bytes.extend(text.bytes());
     random_group(bytes, "operations", RANDOM_OPERATIONS, Kind::Operation);
+}
+
+/// The requests about divisions.
+fn divisions(bytes: &mut Vec<u8>) {
+    let mut text = String::new();
+    for (title, lines) in DIVISIONS {
+        group(&mut text, title, lines.iter());
+    }
+    around_reached(&mut text);
+    bytes.extend(text.bytes());
+    random_group(bytes, "divisions", RANDOM_DIVISIONS, Kind::Division);
 }
 
 /// Adds a comment, and random lines of one kind.

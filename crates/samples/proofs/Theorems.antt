@@ -1,10 +1,11 @@
--- The theorem on the samples of document 01. Assumes nothing.
+-- The theorem on the samples of documents 01 and 02. Assumes nothing.
 use mathlib.Core.Path.{_≡_, refl}
 use mathlib.Core.List.{map}
 use Rattle.radix.specs.Radix.{isWithin}
 use Rattle.shape.specs.Shape.{goodShape}
 use Rattle.shape.specs.Dimensions.{place, inRange, laterPlace, isPermutation}
 use Rattle.shape.specs.Answers.{elementCount}
+use Rattle.reciprocal.specs.Answers.{multiplierEntry}
 use Rattle.tiling.specs.Tile.{tileDims, tileIndex, physical, padded, offsetAt, offset}
 use Rattle.tiling.specs.Cell.{untile, candidate, cell}
 use Rattle.layout.specs.Layout.{goodLayout}
@@ -17,7 +18,7 @@ use Rattle.route.specs.Route.{goodLimits, routeOf}
 use Rattle.operation_maps.proofs.Samples.{makes-maps}
 use Rattle.samples.specs.Samples.{Sample, samples}
 
--- Every sample comes out as document 01 says.
+-- Every sample comes out as its document says.
 pub all-samples : map (λ (s : Sample). s .asked) samples ≡ map (λ (s : Sample). s .expected) samples
-unfolding samples elementCount paddedSize pointOffset elementHeld goodShape goodLayout isWithin isPermutation inRange laterPlace place padded physical offsetAt offset tileDims tileIndex untile candidate cell routeOf goodLimits countsKept layoutsKept sizesKept blank sameBy sameLayout price movesOf costOf leastOf placeOf through valueOf planOf makes-maps
+unfolding samples multiplierEntry elementCount paddedSize pointOffset elementHeld goodShape goodLayout isWithin isPermutation inRange laterPlace place padded physical offsetAt offset tileDims tileIndex untile candidate cell routeOf goodLimits countsKept layoutsKept sizesKept blank sameBy sameLayout price movesOf costOf leastOf placeOf through valueOf planOf makes-maps
 all-samples = refl

@@ -1,4 +1,4 @@
--- The samples of document 01 as one list: what is asked, and what the document says. Assumes nothing.
+-- The samples of documents 01 and 02 as one list: what is asked, and what the document says. Assumes nothing.
 use mathlib.Core.List.{List, [], _∷_, _++_}
 use Prim.Native.Nat.{ℕ, _^_}
 use lib.IntN.{ℤ, pos, negsuc}
@@ -8,6 +8,7 @@ use Rattle.refusal.specs.Number.{Answer, done, refusal}
 use Rattle.refusal.specs.declared.Refusal.the-variants.{ShapeLimits, LayoutRule, Outside, NoPlan}
 use Rattle.shape.specs.Answers.{elementCount}
 use Rattle.shape.specs.declared.Shape.{Shape}
+use Rattle.reciprocal.specs.Answers.{multiplierEntry}
 use Rattle.tiling.specs.Tile.{padded, offset}
 use Rattle.layout.specs.Answers.{paddedSize, pointOffset, elementHeld}
 use Rattle.layout.specs.declared.Layout.{Layout}
@@ -24,7 +25,7 @@ pub data Value : Type 0 where
   mapped : Answer IndexingMap → Value
   integer : ℤ → Value
 
--- what is asked, and what document 01 says
+-- what is asked, and what the document says
 pub record Sample : Type 0 where
   pub asked : Value
   pub expected : Value
@@ -122,4 +123,8 @@ samples =
     -- -1 floordiv 7 is -1 and -1 mod 7 is 6
     ∷ comes-to (floorDiv (negsuc 0) 7) (negsuc 0)
     ∷ comes-to (floorMod (negsuc 0) 7) (pos 6)
+    -- multipliers (Q-8): d = 1 is 17,179,869,185; 3 is 5,726,623,062; 128 is 134,217,729
+    ∷ says (multiplierEntry 1) (at 17179869185)
+    ∷ says (multiplierEntry 3) (at 5726623062)
+    ∷ says (multiplierEntry 128) (at 134217729)
     ∷ []

@@ -1,5 +1,7 @@
 // The answer to a line, by the name that it starts with.
 use check::same;
+use division_requests::answer_multiplier;
+use division_requests::answer_quotient;
 use layout_requests::answer_named;
 use map_requests::answer_compose;
 use map_requests::answer_eval;
@@ -44,6 +46,12 @@ pub fn respond(line: &[u8], out: &mut [u8], at: usize) -> usize {
     }
     if same(word, b"compose") {
         return answer_compose(line, from, out, at);
+    }
+    if same(word, b"multiplier") {
+        return answer_multiplier(line, from, out, at);
+    }
+    if same(word, b"quotient") {
+        return answer_quotient(line, from, out, at);
     }
     respond_named(line, name, from, out, at)
 }

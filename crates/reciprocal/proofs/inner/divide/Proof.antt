@@ -1,7 +1,7 @@
 -- `reciprocal::inner::divide` meets its contract: the rule of the lent table is carried to the division. Assumes nothing.
 use borrow.Author.Needs.{needs}
 use mathlib.Core.Path.{_≡_, ap, _∙_}
-use Prim.Native.Nat.{ℕ, _+_, _-_, _*_, _/_, _^_, _≤_}
+use Prim.Native.Nat.{ℕ, _+_, _-_, _*_, _/_, _^_, _<_, _≤_}
 use native.Mathlib.Nat.{mul-le-mul, div-le-self, div-mul-le-self, div-add-mod'}
 use native.Mathlib.Omega.{arith}
 use denote.Ref.{now}
@@ -36,7 +36,7 @@ is c =
 mul-quotient-2 : tie.Need-mul-quotient-2
 mul-quotient-2 c =
     let s = start c in
-    let n : s .args .n ≤ reached = omega (arith, c .before .before .if1 .taken) in
+    let n : s .args .n ≤ 2 ^ 29 = omega (arith, c .before .before .if1 .taken) in
     let m : held c ≤ whole + 1 = omega (arith, is c, div-le-self whole (s .args .divisor)) in
     omega (arith, mul-le-mul n m)
 
@@ -44,7 +44,8 @@ mul-quotient-2 c =
 quotient : (c : tie.After-shared-slice-known) → start c .args .n * held c / whole ≡ start c .args .n / start c .args .divisor
 quotient c =
     let s = start c in
-    ap (λ (m : ℕ). s .args .n * m / whole) (is c) ∙ reciprocal (s .args .n) (s .args .divisor) (s .pre .1 .0) (s .pre .1 .1) (c .before .before .if1 .taken)
+    let l : s .args .n < reached = omega (arith, c .before .before .if1 .taken) in
+    ap (λ (m : ℕ). s .args .n * m / whole) (is c) ∙ reciprocal (s .args .n) (s .args .divisor) (s .pre .1 .0) (s .pre .1 .1) l
 
 back : (c : tie.After-shared-slice-known) → start c .args .n * held c / whole * start c .args .divisor ≡ start c .args .n / start c .args .divisor * start c .args .divisor
 back c = ap (λ (q : ℕ). q * start c .args .divisor) (quotient c)
