@@ -1,0 +1,206 @@
+// Measures packing and unpacking: the library beside an ordinary packer with the machine's division and beside a copy of the padded size.
+// `run pack` measures every case of the list, `run pack list` the main ones, `run pack plain` the plain loop with and without the multipliers
+// on the main ones, and `run pack random SEED N` compares and measures N random cases.
+mod cases;
+#[allow(dead_code)]
+#[path = "../fold/clock.rs"]
+mod clock;
+mod measure;
+mod ordinary;
+mod refused;
+
+use cases::{Case, Random};
+use measure::{in_turn, short, Times};
+use std::hint::black_box;
+
+#[allow(improper_ctypes)]
+#[link(name = "pack_bench", kind = "static")]
+extern "C" {
+    /// The number of the library's verdict, by the shape and the layout of a row.
+    fn pack_any(row: &[u64], source: &[u32], cells: &mut [u32]) -> u64;
+    fn unpack_any(row: &[u64], cells: &[u32], destination: &mut [u32]) -> u64;
+    /// The row without packing: what reading it costs.
+    fn read_any(row: &[u64]) -> u64;
+    /// The plain loop; the row's last number says whether the multipliers are lent.
+    fn pack_plainly(row: &[u64], source: &[u32], cells: &mut [u32]) -> u64;
+}
+
+pub fn library_pack(row: &[u64], source: &[u32], cells: &mut [u32]) -> u64 {
+    unsafe { pack_any(row, source, cells) }
+}
+
+pub fn library_unpack(row: &[u64], cells: &[u32], destination: &mut [u32]) -> u64 {
+    unsafe { unpack_any(row, cells, destination) }
+}
+
+fn plain_pack(row: &[u64], source: &[u32], cells: &mut [u32]) -> u64 {
+    unsafe { pack_plainly(row, source, cells) }
+}
+
+/// What stands in a buffer before a call, and past the places that a call may write.
+const OLD: u32 = 7;
+
+/// The buffers of a case: its elements, its cells, two more of each kind to write, and a copy's two ends.
+struct Buffers {
+    source: Vec<u32>,
+    cells: Vec<u32>,
+    written: Vec<u32>,
+    back: Vec<u32>,
+}
+
+impl Buffers {
+    /// Packs and unpacks by both versions, and stops where they differ. Every buffer is one longer than needed, to see that the rest stays.
+    fn checked(case: &Case) -> Buffers {
+        let (name, row) = (case.name(), case.row(0));
+        let source: Vec<u32> = (0..case.count() as u32 + 1).map(|n| n.wrapping_mul(2654435761) | 1).collect();
+        let mut cells = vec![OLD; case.padded() + 1];
+        let mut written = cells.clone();
+        assert_eq!(ordinary::pack(&case.sizes, &case.layout, &source, &mut cells), Ok(()), "{name}");
+        assert_eq!(library_pack(&row, &source, &mut written), 0, "{name}");
+        assert!(cells == written, "{name}: packed cells differ");
+        for with in [0, 1] {
+            written.fill(OLD);
+            assert_eq!(plain_pack(&case.row(with), &source, &mut written), 0, "{name}");
+            assert!(cells == written, "{name}: plainly packed cells differ");
+        }
+        let mut back = vec![OLD; source.len()];
+        for library in [true, false] {
+            back.fill(OLD);
+            let number = if library { library_unpack(&row, &cells, &mut back) } else { ordinary::unpack(&case.sizes, &case.layout, &cells, &mut back).map_or_else(|r| r, |_| 0) };
+            assert_eq!(number, 0, "{name}");
+            assert!(back[..case.count()] == source[..case.count()] && back[case.count()] == OLD, "{name}: unpacked elements differ");
+        }
+        Buffers { source, cells, written, back }
+    }
+
+    /// The times of packing: the library, the ordinary version, a copy of the padded size, and reading the row.
+    fn pack_times(&mut self, case: &Case, rounds: usize) -> Vec<Times> {
+        let (row, padded) = (case.row(0), case.padded());
+        let Buffers { source, cells, written, .. } = self;
+        let written = std::cell::RefCell::new(written);
+        in_turn(
+            rounds,
+            &mut [
+                &mut || assert_eq!(library_pack(black_box(&row), black_box(source), &mut written.borrow_mut()), 0),
+                &mut || assert_eq!(ordinary::pack(black_box(&case.sizes), &case.layout, black_box(source), &mut written.borrow_mut()), Ok(())),
+                &mut || black_box(&mut written.borrow_mut()[..padded]).copy_from_slice(black_box(&cells[..padded])),
+                &mut || assert!(unsafe { read_any(black_box(&row)) } <= 1 << 20),
+            ],
+        )
+    }
+
+    fn unpack_times(&mut self, case: &Case, rounds: usize) -> Vec<Times> {
+        let (row, padded) = (case.row(0), case.padded());
+        let Buffers { cells, written, back, .. } = self;
+        let back = std::cell::RefCell::new(back);
+        in_turn(
+            rounds,
+            &mut [
+                &mut || assert_eq!(library_unpack(black_box(&row), black_box(cells), &mut back.borrow_mut()), 0),
+                &mut || assert_eq!(ordinary::unpack(black_box(&case.sizes), &case.layout, black_box(cells), &mut back.borrow_mut()), Ok(())),
+                &mut || black_box(&mut written[..padded]).copy_from_slice(black_box(&cells[..padded])),
+                &mut || assert!(unsafe { read_any(black_box(&row)) } <= 1 << 20),
+            ],
+        )
+    }
+
+    /// The times of the plain loop by division, of the same through the multipliers, and of the ordinary version.
+    fn plain_times(&mut self, case: &Case, rounds: usize) -> Vec<Times> {
+        let rows = [case.row(0), case.row(1)];
+        let Buffers { source, written, .. } = self;
+        let written = std::cell::RefCell::new(written);
+        in_turn(
+            rounds,
+            &mut [
+                &mut || assert_eq!(plain_pack(black_box(&rows[0]), black_box(source), &mut written.borrow_mut()), 0),
+                &mut || assert_eq!(plain_pack(black_box(&rows[1]), black_box(source), &mut written.borrow_mut()), 0),
+                &mut || assert_eq!(ordinary::pack(black_box(&case.sizes), &case.layout, black_box(source), &mut written.borrow_mut()), Ok(())),
+            ],
+        )
+    }
+}
+
+const ROUNDS: usize = 15;
+
+/// One line of a table for packing, and one for unpacking.
+fn report(case: &Case) {
+    let mut buffers = Buffers::checked(case);
+    for what in ["pack", "unpack"] {
+        let times = if what == "pack" { buffers.pack_times(case, ROUNDS) } else { buffers.unpack_times(case, ROUNDS) };
+        let [library, plain, copy, row] = &times[..] else { unreachable!() };
+        println!(
+            "| {} | {what} | {} | {} | {} | {} | {:.2} | {:.2} |",
+            case.name(),
+            library.over(plain),
+            short(library.best()),
+            short(plain.best()),
+            short(copy.best()),
+            library.best() / copy.best(),
+            library.less(row.best()).median_over(plain)
+        );
+    }
+}
+
+fn report_plain(case: &Case) {
+    let times = Buffers::checked(case).plain_times(case, ROUNDS);
+    let [division, table, plain] = &times[..] else { unreachable!() };
+    println!(
+        "| {} | {} | {} | {} | {} | {} | {} |",
+        case.name(),
+        table.over(division),
+        division.over(plain),
+        table.over(plain),
+        short(division.best()),
+        short(table.best()),
+        short(plain.best())
+    );
+}
+
+/// The ratios of a case, without the reading of the row: the larger of packing and unpacking, measured again with all rounds where the first few are near 1.
+fn worst_ratio(case: &Case) -> (f64, f64) {
+    let mut buffers = Buffers::checked(case);
+    let mut measured = |rounds| {
+        let ratio = |times: Vec<Times>| (times[0].median_over(&times[1]), times[0].less(times[3].best()).median_over(&times[1]));
+        let (pack, unpack) = (ratio(buffers.pack_times(case, rounds)), ratio(buffers.unpack_times(case, rounds)));
+        (pack.0.max(unpack.0), pack.1.max(unpack.1))
+    };
+    let first = measured(3);
+    if first.0 < 0.8 {
+        return first;
+    }
+    measured(ROUNDS)
+}
+
+fn report_random(seed: u64, count: usize) {
+    let mut random = Random(seed);
+    let mut found: Vec<(f64, f64, String)> = Vec::new();
+    for _ in 0..count {
+        let case = random.case();
+        let (ratio, less) = worst_ratio(&case);
+        found.push((ratio, less, format!("{}, {} elements, {} cells", case.name(), case.count(), case.padded())));
+    }
+    found.sort_by(|a, b| b.0.total_cmp(&a.0));
+    let above = |f: fn(&(f64, f64, String)) -> f64| found.iter().filter(|&c| f(c) > 1.0).count();
+    println!("seed {seed}: {count} cases, {} with a ratio above 1, {} without the reading of the row", above(|c| c.0), above(|c| c.1));
+    println!("median {:.3}; the worst:", found[found.len() / 2].0);
+    for (ratio, less, name) in found.iter().take(10) {
+        println!("  {ratio:.3} ({less:.3} without the row)  {name}");
+    }
+}
+
+fn main() {
+    let words: Vec<String> = std::env::args().skip(1).collect();
+    let number = |k: usize, other: u64| words.get(k).map_or(other, |w| w.parse().expect("a number"));
+    refused::compare();
+    match words.first().map_or("", |w| w) {
+        "random" => report_random(number(1, 1), number(2, 100).max(1) as usize),
+        "plain" => {
+            println!("| case | table / division | division / ordinary | table / ordinary | division | table | ordinary |\n|---|---|---|---|---|---|---|");
+            cases::listed(false).iter().for_each(report_plain);
+        }
+        word => {
+            println!("| case | call | library / ordinary | library | ordinary | copy | library / copy | without the row |\n|---|---|---|---|---|---|---|---|");
+            cases::listed(word != "list").iter().for_each(report);
+        }
+    }
+}
