@@ -1,5 +1,5 @@
 // The benchmark's shapes and layouts: a list, and random ones from a seed.
-use crate::ordinary::{physical, product, Layout};
+use crate::ordinary::{padded, product, Layout};
 
 /// The length of a row: rank, 6 sizes, 6 entries of minor_to_major, the number of tiles, 3 tile lengths, 18 tile entries.
 const ROW: usize = 35;
@@ -25,7 +25,7 @@ impl Case {
     }
 
     pub fn padded(&self) -> usize {
-        product(&physical(&self.sizes, &self.layout)).unwrap() as usize
+        padded(&self.sizes, &self.layout).unwrap() as usize
     }
 
     /// The row that the library's side reads, with the last number that only its plain loop reads.
@@ -162,8 +162,7 @@ impl Random {
         loop {
             let sizes = self.sizes();
             let layout = self.layout(sizes.len());
-            let padded = product(&physical(&sizes, &layout));
-            if padded.is_some_and(|n| n <= 1 << 22) {
+            if padded(&sizes, &layout).is_some_and(|n| n <= 1 << 22) {
                 return Case { sizes, layout };
             }
         }

@@ -1,6 +1,7 @@
 // Measures packing and unpacking: the library beside an ordinary packer with the machine's division and beside a copy of the padded size.
 // `run pack` measures every case of the list, `run pack list` the main ones, `run pack plain` the plain loop with and without the multipliers
 // on the main ones, and `run pack random SEED N` compares and measures N random cases.
+mod buffers;
 mod cases;
 #[allow(dead_code)]
 #[path = "../fold/clock.rs"]
@@ -9,9 +10,9 @@ mod measure;
 mod ordinary;
 mod refused;
 
+use buffers::Buffers;
 use cases::{Case, Random};
-use measure::{in_turn, short, Times};
-use std::hint::black_box;
+use measure::{short, Times};
 
 #[allow(improper_ctypes)]
 #[link(name = "pack_bench", kind = "static")]
@@ -33,91 +34,12 @@ pub fn library_unpack(row: &[u64], cells: &[u32], destination: &mut [u32]) -> u6
     unsafe { unpack_any(row, cells, destination) }
 }
 
-fn plain_pack(row: &[u64], source: &[u32], cells: &mut [u32]) -> u64 {
+pub fn plain_pack(row: &[u64], source: &[u32], cells: &mut [u32]) -> u64 {
     unsafe { pack_plainly(row, source, cells) }
 }
 
-/// What stands in a buffer before a call, and past the places that a call may write.
-const OLD: u32 = 7;
-
-/// The buffers of a case: its elements, its cells, two more of each kind to write, and a copy's two ends.
-struct Buffers {
-    source: Vec<u32>,
-    cells: Vec<u32>,
-    written: Vec<u32>,
-    back: Vec<u32>,
-}
-
-impl Buffers {
-    /// Packs and unpacks by both versions, and stops where they differ. Every buffer is one longer than needed, to see that the rest stays.
-    fn checked(case: &Case) -> Buffers {
-        let (name, row) = (case.name(), case.row(0));
-        let source: Vec<u32> = (0..case.count() as u32 + 1).map(|n| n.wrapping_mul(2654435761) | 1).collect();
-        let mut cells = vec![OLD; case.padded() + 1];
-        let mut written = cells.clone();
-        assert_eq!(ordinary::pack(&case.sizes, &case.layout, &source, &mut cells), Ok(()), "{name}");
-        assert_eq!(library_pack(&row, &source, &mut written), 0, "{name}");
-        assert!(cells == written, "{name}: packed cells differ");
-        for with in [0, 1] {
-            written.fill(OLD);
-            assert_eq!(plain_pack(&case.row(with), &source, &mut written), 0, "{name}");
-            assert!(cells == written, "{name}: plainly packed cells differ");
-        }
-        let mut back = vec![OLD; source.len()];
-        for library in [true, false] {
-            back.fill(OLD);
-            let number = if library { library_unpack(&row, &cells, &mut back) } else { ordinary::unpack(&case.sizes, &case.layout, &cells, &mut back).map_or_else(|r| r, |_| 0) };
-            assert_eq!(number, 0, "{name}");
-            assert!(back[..case.count()] == source[..case.count()] && back[case.count()] == OLD, "{name}: unpacked elements differ");
-        }
-        Buffers { source, cells, written, back }
-    }
-
-    /// The times of packing: the library, the ordinary version, a copy of the padded size, and reading the row.
-    fn pack_times(&mut self, case: &Case, rounds: usize) -> Vec<Times> {
-        let (row, padded) = (case.row(0), case.padded());
-        let Buffers { source, cells, written, .. } = self;
-        let written = std::cell::RefCell::new(written);
-        in_turn(
-            rounds,
-            &mut [
-                &mut || assert_eq!(library_pack(black_box(&row), black_box(source), &mut written.borrow_mut()), 0),
-                &mut || assert_eq!(ordinary::pack(black_box(&case.sizes), &case.layout, black_box(source), &mut written.borrow_mut()), Ok(())),
-                &mut || black_box(&mut written.borrow_mut()[..padded]).copy_from_slice(black_box(&cells[..padded])),
-                &mut || assert!(unsafe { read_any(black_box(&row)) } <= 1 << 20),
-            ],
-        )
-    }
-
-    fn unpack_times(&mut self, case: &Case, rounds: usize) -> Vec<Times> {
-        let (row, padded) = (case.row(0), case.padded());
-        let Buffers { cells, written, back, .. } = self;
-        let back = std::cell::RefCell::new(back);
-        in_turn(
-            rounds,
-            &mut [
-                &mut || assert_eq!(library_unpack(black_box(&row), black_box(cells), &mut back.borrow_mut()), 0),
-                &mut || assert_eq!(ordinary::unpack(black_box(&case.sizes), &case.layout, black_box(cells), &mut back.borrow_mut()), Ok(())),
-                &mut || black_box(&mut written[..padded]).copy_from_slice(black_box(&cells[..padded])),
-                &mut || assert!(unsafe { read_any(black_box(&row)) } <= 1 << 20),
-            ],
-        )
-    }
-
-    /// The times of the plain loop by division, of the same through the multipliers, and of the ordinary version.
-    fn plain_times(&mut self, case: &Case, rounds: usize) -> Vec<Times> {
-        let rows = [case.row(0), case.row(1)];
-        let Buffers { source, written, .. } = self;
-        let written = std::cell::RefCell::new(written);
-        in_turn(
-            rounds,
-            &mut [
-                &mut || assert_eq!(plain_pack(black_box(&rows[0]), black_box(source), &mut written.borrow_mut()), 0),
-                &mut || assert_eq!(plain_pack(black_box(&rows[1]), black_box(source), &mut written.borrow_mut()), 0),
-                &mut || assert_eq!(ordinary::pack(black_box(&case.sizes), &case.layout, black_box(source), &mut written.borrow_mut()), Ok(())),
-            ],
-        )
-    }
+pub fn library_read(row: &[u64]) -> u64 {
+    unsafe { read_any(row) }
 }
 
 const ROUNDS: usize = 15;
@@ -156,7 +78,8 @@ fn report_plain(case: &Case) {
     );
 }
 
-/// The ratios of a case, without the reading of the row: the larger of packing and unpacking, measured again with all rounds where the first few are near 1.
+/// The larger of the ratios of packing and unpacking, and the same without the reading of the row; measured again with all rounds where the
+/// first few are near 1 or above.
 fn worst_ratio(case: &Case) -> (f64, f64) {
     let mut buffers = Buffers::checked(case);
     let mut measured = |rounds| {

@@ -1,4 +1,4 @@
-// An ordinary packer: each element's digits, tiled index and offset by the machine's division, over vectors made once a call.
+// An ordinary packer: each element's digits, tiled index and offset by the machine's division, over arrays made once a call.
 
 pub struct Layout {
     pub minor_to_major: Vec<usize>,
@@ -18,6 +18,8 @@ const MAX_COUNT: u64 = 1 << 40;
 const MAX_TILES: usize = 3;
 const MAX_ENTRIES: usize = 6;
 const MAX_ENTRY: u64 = 1024;
+/// The most dimensions of a physical shape.
+const MAX_DIMS: usize = MAX_RANK + MAX_TILES * MAX_ENTRIES;
 
 /// The product of numbers from 1, where it is at most 2^40.
 pub fn product(numbers: &[u64]) -> Option<u64> {
@@ -39,28 +41,39 @@ fn good_tiles(rank: usize, tiles: &[Vec<u64>]) -> bool {
         })
 }
 
-/// The physical shape: the sizes in physical order, and each tile on that.
-pub fn physical(sizes: &[u64], layout: &Layout) -> Vec<u64> {
-    let mut dims: Vec<u64> = layout.minor_to_major.iter().rev().map(|&d| sizes[d]).collect();
+/// The physical shape: the sizes in physical order, and each tile on that; its length, and the numbers.
+fn physical(sizes: &[u64], layout: &Layout) -> (usize, [u64; MAX_DIMS]) {
+    let (mut len, mut dims) = (sizes.len(), [0; MAX_DIMS]);
+    for (dim, &d) in dims.iter_mut().zip(layout.minor_to_major.iter().rev()) {
+        *dim = sizes[d];
+    }
     for tile in &layout.tiles {
-        let first = dims.len() - tile.len();
-        for (dim, t) in dims[first..].iter_mut().zip(tile) {
+        let first = len - tile.len();
+        for (dim, t) in dims[first..len].iter_mut().zip(tile) {
             *dim = dim.div_ceil(*t);
         }
-        dims.extend_from_slice(tile);
+        dims[len..len + tile.len()].copy_from_slice(tile);
+        len += tile.len();
     }
-    dims
+    (len, dims)
 }
 
-/// What a call needs: the physical shape, the two counts, and the vectors that every element uses again.
+/// The padded size, where it is at most 2^40.
+pub fn padded(sizes: &[u64], layout: &Layout) -> Option<u64> {
+    let (len, dims) = physical(sizes, layout);
+    product(&dims[..len])
+}
+
+/// What a call needs: the physical shape, the two counts, and the arrays that every element uses again.
 struct Walk<'a> {
     sizes: &'a [u64],
     layout: &'a Layout,
-    dims: Vec<u64>,
+    len: usize,
+    dims: [u64; MAX_DIMS],
     count: usize,
     padded: usize,
-    point: Vec<u64>,
-    index: Vec<u64>,
+    point: [u64; MAX_RANK],
+    index: [u64; MAX_DIMS],
 }
 
 impl<'a> Walk<'a> {
@@ -73,32 +86,34 @@ impl<'a> Walk<'a> {
         if !good_order(sizes.len(), &layout.minor_to_major) || !good_tiles(sizes.len(), &layout.tiles) {
             return Err(LAYOUT);
         }
-        let dims = physical(sizes, layout);
-        let padded = product(&dims).ok_or(PADDED)? as usize;
+        let (len, dims) = physical(sizes, layout);
+        let padded = product(&dims[..len]).ok_or(PADDED)? as usize;
         if elements < count || cells < padded {
             return Err(BUFFER);
         }
-        let (point, index) = (vec![0; sizes.len()], Vec::with_capacity(dims.len()));
-        Ok(Walk { sizes, layout, dims, count, padded, point, index })
+        Ok(Walk { sizes, layout, len, dims, count, padded, point: [0; MAX_RANK], index: [0; MAX_DIMS] })
     }
 
     fn offset(&mut self, element: usize) -> usize {
         let mut n = element as u64;
-        for (coordinate, size) in self.point.iter_mut().zip(self.sizes).rev() {
+        let mut len = self.sizes.len();
+        for (coordinate, size) in self.point[..len].iter_mut().zip(self.sizes).rev() {
             *coordinate = n % size;
             n /= size;
         }
-        self.index.clear();
-        self.index.extend(self.layout.minor_to_major.iter().rev().map(|&d| self.point[d]));
+        for (e, &d) in self.index.iter_mut().zip(self.layout.minor_to_major.iter().rev()) {
+            *e = self.point[d];
+        }
         for tile in &self.layout.tiles {
-            let first = self.index.len() - tile.len();
+            let first = len - tile.len();
             for (j, t) in tile.iter().enumerate() {
                 let e = self.index[first + j];
                 self.index[first + j] = e / t;
-                self.index.push(e % t);
+                self.index[len + j] = e % t;
             }
+            len += tile.len();
         }
-        self.index.iter().zip(&self.dims).fold(0, |offset, (e, d)| offset * d + e) as usize
+        self.index[..self.len].iter().zip(&self.dims).fold(0, |offset, (e, d)| offset * d + e) as usize
     }
 }
 
