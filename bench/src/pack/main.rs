@@ -1,6 +1,7 @@
 // Measures packing and unpacking: the library beside an ordinary packer with the machine's division and beside a copy of the padded size.
 // `run pack` measures every case of the list, `run pack list` the main ones, `run pack plain` the plain loop with and without the multipliers
-// on the main ones, and `run pack random SEED N` compares and measures N random cases.
+// on the main ones, and `run pack random SEED N` compares and measures N random cases. One more word, as in `run pack all [4096,1024]` or
+// `run pack plain [4096,1024]`, leaves only the cases that have it in their names.
 mod buffers;
 mod cases;
 #[allow(dead_code)]
@@ -114,16 +115,18 @@ fn report_random(seed: u64, count: usize) {
 fn main() {
     let words: Vec<String> = std::env::args().skip(1).collect();
     let number = |k: usize, other: u64| words.get(k).map_or(other, |w| w.parse().expect("a number"));
+    let part = words.get(1).map_or("", |w| w);
+    let listed = |all| cases::listed(all).into_iter().filter(|c| c.name().contains(part));
     refused::compare();
     match words.first().map_or("", |w| w) {
         "random" => report_random(number(1, 1), number(2, 100).max(1) as usize),
         "plain" => {
             println!("| case | table / division | division / ordinary | table / ordinary | division | table | ordinary |\n|---|---|---|---|---|---|---|");
-            cases::listed(false).iter().for_each(report_plain);
+            listed(false).for_each(|c| report_plain(&c));
         }
         word => {
             println!("| case | call | library / ordinary | library | ordinary | copy | library / copy | without the row |\n|---|---|---|---|---|---|---|---|");
-            cases::listed(word != "list").iter().for_each(report);
+            listed(word != "list").for_each(|c| report(&c));
         }
     }
 }
