@@ -14,7 +14,8 @@ extern "C" {
 /// Linux's CLOCK_THREAD_CPUTIME_ID.
 const THREAD: i32 = 3;
 
-fn thread_seconds() -> f64 {
+/// The processor time of this thread.
+pub fn thread_seconds() -> f64 {
     let mut time = Timespec { seconds: 0, nanoseconds: 0 };
     assert_eq!(unsafe { clock_gettime(THREAD, &mut time) }, 0);
     time.seconds as f64 + time.nanoseconds as f64 * 1e-9
