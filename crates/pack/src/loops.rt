@@ -1,13 +1,12 @@
 // The loops over the elements, from the lists of a shape and a layout. Inner functions.
 use super::rows;
-use tiling::Physical;
 ghost use mathlib.Core.Path.{_≡_};
 ghost use mathlib.Core.List.{_++_};
 ghost use Prim.Native.Nat.{_≤_};
 ghost use lib.ListN.{length, drop, replicate};
 ghost use Rattle.radix.specs.Radix.{prod};
 ghost use Rattle.tiling.specs.Tile.{tilesFrom, padded, physical};
-ghost use Rattle.tiling.specs.Ready.{Ready, IsPhysical};
+ghost use Rattle.tiling.specs.Ready.{Ready};
 ghost use Rattle.pack.specs.Pack.{packed, unpacked};
 ghost use Rattle.pack.specs.Rows.{Stored, Loaded, startOf};
 
@@ -42,12 +41,12 @@ fn pack_few(
     p: &[u64],
     lens: &[usize],
     flat: &[u64],
-    d: Physical,
+    dims: &[u64],
     source: &[u32],
     cells: &mut [u32],
 )
     requires { ⌜ Ready (now sizes) (now p) (now lens) (now flat) ⌝ }
-    requires { ⌜ IsPhysical d (physical (now sizes) (now p) (tilesFrom (now lens) (now flat))) ⌝ }
+    requires { ⌜ now dims ≡ physical (now sizes) (now p) (tilesFrom (now lens) (now flat)) ⌝ }
     requires { ⌜ (prod (now sizes) ≤ length (now source)) × (padded (now sizes) (now p) (tilesFrom (now lens) (now flat)) ≤ length (now cells)) ⌝ }
     ensures { λ _. ⌜ Stored (now (sizes .entry)) (now (p .entry)) (tilesFrom (now (lens .entry)) (now (flat .entry))) (now (source .entry)) (prod (now (sizes .entry))) (now (cells .entry)) (now (cells .exit)) ⌝ }
 {
@@ -72,12 +71,12 @@ fn unpack_few(
     p: &[u64],
     lens: &[usize],
     flat: &[u64],
-    d: Physical,
+    dims: &[u64],
     cells: &[u32],
     destination: &mut [u32],
 )
     requires { ⌜ Ready (now sizes) (now p) (now lens) (now flat) ⌝ }
-    requires { ⌜ IsPhysical d (physical (now sizes) (now p) (tilesFrom (now lens) (now flat))) ⌝ }
+    requires { ⌜ now dims ≡ physical (now sizes) (now p) (tilesFrom (now lens) (now flat)) ⌝ }
     requires { ⌜ (prod (now sizes) ≤ length (now destination)) × (padded (now sizes) (now p) (tilesFrom (now lens) (now flat)) ≤ length (now cells)) ⌝ }
     ensures { λ _. ⌜ Loaded (now (sizes .entry)) (now (p .entry)) (tilesFrom (now (lens .entry)) (now (flat .entry))) (now (cells .entry)) (prod (now (sizes .entry))) (now (destination .entry)) (now (destination .exit)) ⌝ }
 {
@@ -102,19 +101,19 @@ fn pack_many(
     p: &[u64],
     lens: &[usize],
     flat: &[u64],
-    d: Physical,
+    dims: &[u64],
     source: &[u32],
     cells: &mut [u32],
 )
     requires { ⌜ Ready (now sizes) (now p) (now lens) (now flat) ⌝ }
-    requires { ⌜ IsPhysical d (physical (now sizes) (now p) (tilesFrom (now lens) (now flat))) ⌝ }
+    requires { ⌜ now dims ≡ physical (now sizes) (now p) (tilesFrom (now lens) (now flat)) ⌝ }
     requires { ⌜ (prod (now sizes) ≤ length (now source)) × (padded (now sizes) (now p) (tilesFrom (now lens) (now flat)) ≤ length (now cells)) ⌝ }
     ensures { λ _. ⌜ Stored (now (sizes .entry)) (now (p .entry)) (tilesFrom (now (lens .entry)) (now (flat .entry))) (now (source .entry)) (prod (now (sizes .entry))) (now (cells .entry)) (now (cells .exit)) ⌝ }
 {
     let r = reciprocal::inner::multipliers();
     let m = r.at;
     let mut table = [0u64; 1024];
-    rows::pack_with(sizes, p, lens, flat, d, &mut table, source, cells, &m);
+    rows::pack_with(sizes, p, lens, flat, dims, &mut table, source, cells, &m);
 }
 
 // Unpacks with a table of 1,024 offsets, dividing by the multipliers.
@@ -123,19 +122,29 @@ fn unpack_many(
     p: &[u64],
     lens: &[usize],
     flat: &[u64],
-    d: Physical,
+    dims: &[u64],
     cells: &[u32],
     destination: &mut [u32],
 )
     requires { ⌜ Ready (now sizes) (now p) (now lens) (now flat) ⌝ }
-    requires { ⌜ IsPhysical d (physical (now sizes) (now p) (tilesFrom (now lens) (now flat))) ⌝ }
+    requires { ⌜ now dims ≡ physical (now sizes) (now p) (tilesFrom (now lens) (now flat)) ⌝ }
     requires { ⌜ (prod (now sizes) ≤ length (now destination)) × (padded (now sizes) (now p) (tilesFrom (now lens) (now flat)) ≤ length (now cells)) ⌝ }
     ensures { λ _. ⌜ Loaded (now (sizes .entry)) (now (p .entry)) (tilesFrom (now (lens .entry)) (now (flat .entry))) (now (cells .entry)) (prod (now (sizes .entry))) (now (destination .entry)) (now (destination .exit)) ⌝ }
 {
     let r = reciprocal::inner::multipliers();
     let m = r.at;
     let mut table = [0u64; 1024];
-    rows::unpack_with(sizes, p, lens, flat, d, &mut table, cells, destination, &m);
+    rows::unpack_with(
+        sizes,
+        p,
+        lens,
+        flat,
+        dims,
+        &mut table,
+        cells,
+        destination,
+        &m,
+    );
 }
 
 // Every element to its cell, 0 in padding; cells past the padded size stay.
@@ -158,9 +167,9 @@ pub fn pack_in(
     let count = radix::product(sizes);
     clear_padding(cells, count, size);
     if count < MANY {
-        pack_few(sizes, p, lens, flat, d, source, cells);
+        pack_few(sizes, p, lens, flat, &at[..len], source, cells);
     } else {
-        pack_many(sizes, p, lens, flat, d, source, cells);
+        pack_many(sizes, p, lens, flat, &at[..len], source, cells);
     }
 }
 
@@ -178,9 +187,11 @@ pub fn unpack_in(
     ensures { λ _. ⌜ now (destination .exit) ≡ unpacked (now (sizes .entry)) (now (p .entry)) (tilesFrom (now (lens .entry)) (now (flat .entry))) (now (cells .entry)) (now (destination .entry)) ⌝ }
 {
     let d = tiling::physical_dims(sizes, p, lens, flat);
+    let at = d.at;
+    let len = d.len;
     if radix::product(sizes) < MANY {
-        unpack_few(sizes, p, lens, flat, d, cells, destination);
+        unpack_few(sizes, p, lens, flat, &at[..len], cells, destination);
     } else {
-        unpack_many(sizes, p, lens, flat, d, cells, destination);
+        unpack_many(sizes, p, lens, flat, &at[..len], cells, destination);
     }
 }

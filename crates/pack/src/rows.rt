@@ -2,14 +2,13 @@
 // is that of the row's first element plus that of its place in the row. Inner functions.
 use super::cut;
 use cut::Cut;
-use tiling::Physical;
 ghost use mathlib.Core.Path.{_≡_};
 ghost use Prim.Native.Nat.{_+_, _*_, _<_, _≤_};
 ghost use lib.ListN.{length, take};
 ghost use Rattle.radix.specs.Radix.{prod, tab};
 ghost use Rattle.reciprocal.specs.Multiplier.{AreMultipliers};
 ghost use Rattle.tiling.specs.Tile.{tilesFrom, padded, offset, physical};
-ghost use Rattle.tiling.specs.Ready.{Ready, IsPhysical};
+ghost use Rattle.tiling.specs.Ready.{Ready};
 ghost use Rattle.pack.specs.Rows.{Stored, Loaded, scattered, gathered, Reaches, IsCut, IsRow, offsetsFrom};
 
 // The offsets of the first n elements, at the front of the table.
@@ -18,20 +17,20 @@ fn offsets_into(
     p: &[u64],
     lens: &[usize],
     flat: &[u64],
-    d: Physical,
+    dims: &[u64],
     n: usize,
     table: &mut [u64],
     m: &[u64],
 )
     requires { ⌜ AreMultipliers (now m) ⌝ }
     requires { ⌜ Ready (now sizes) (now p) (now lens) (now flat) ⌝ }
-    requires { ⌜ IsPhysical d (physical (now sizes) (now p) (tilesFrom (now lens) (now flat))) ⌝ }
+    requires { ⌜ now dims ≡ physical (now sizes) (now p) (tilesFrom (now lens) (now flat)) ⌝ }
     requires { ⌜ (n ≤ prod (now sizes)) × (n ≤ length (now table)) ⌝ }
     ensures { λ _. ⌜ take n (now (table .exit)) ≡ offsetsFrom (now (sizes .entry)) (now (p .entry)) (tilesFrom (now (lens .entry)) (now (flat .entry))) n ⌝ }
 {
     let mut j: usize = 0;
     while j < n {
-        table[j] = tiling::offset_by(sizes, p, lens, flat, d, j as u64, m);
+        table[j] = tiling::offset_by(sizes, p, lens, flat, dims, j as u64, m);
         j += 1;
     }
 }
@@ -96,7 +95,7 @@ fn pack_rows(
     p: &[u64],
     lens: &[usize],
     flat: &[u64],
-    d: Physical,
+    dims: &[u64],
     g: Cut,
     table: &[u64],
     source: &[u32],
@@ -105,7 +104,7 @@ fn pack_rows(
 )
     requires { ⌜ AreMultipliers (now m) ⌝ }
     requires { ⌜ Ready (now sizes) (now p) (now lens) (now flat) ⌝ }
-    requires { ⌜ IsPhysical d (physical (now sizes) (now p) (tilesFrom (now lens) (now flat))) ⌝ }
+    requires { ⌜ now dims ≡ physical (now sizes) (now p) (tilesFrom (now lens) (now flat)) ⌝ }
     requires { ⌜ (prod (now sizes) ≤ length (now source)) × (padded (now sizes) (now p) (tilesFrom (now lens) (now flat)) ≤ length (now cells)) ⌝ }
     requires { ⌜ IsCut g (now sizes) (now p) × (now table ≡ offsetsFrom (now sizes) (now p) (tilesFrom (now lens) (now flat)) (g .wide * g .span)) ⌝ }
     ensures { λ _. ⌜ Stored (now (sizes .entry)) (now (p .entry)) (tilesFrom (now (lens .entry)) (now (flat .entry))) (now (source .entry)) (prod (now (sizes .entry))) (now (cells .entry)) (now (cells .exit)) ⌝ }
@@ -116,7 +115,7 @@ fn pack_rows(
     while q < steps {
         let r = row_steps(sizes, p, lens, flat, g, q, m);
         let n = q * span;
-        let base = tiling::offset_by(sizes, p, lens, flat, d, n, m);
+        let base = tiling::offset_by(sizes, p, lens, flat, dims, n, m);
         let len = (r * span) as usize;
         scatter(source, n as usize, &table[..len], base, cells);
         q += r;
@@ -129,7 +128,7 @@ fn unpack_rows(
     p: &[u64],
     lens: &[usize],
     flat: &[u64],
-    d: Physical,
+    dims: &[u64],
     g: Cut,
     table: &[u64],
     cells: &[u32],
@@ -138,7 +137,7 @@ fn unpack_rows(
 )
     requires { ⌜ AreMultipliers (now m) ⌝ }
     requires { ⌜ Ready (now sizes) (now p) (now lens) (now flat) ⌝ }
-    requires { ⌜ IsPhysical d (physical (now sizes) (now p) (tilesFrom (now lens) (now flat))) ⌝ }
+    requires { ⌜ now dims ≡ physical (now sizes) (now p) (tilesFrom (now lens) (now flat)) ⌝ }
     requires { ⌜ (prod (now sizes) ≤ length (now destination)) × (padded (now sizes) (now p) (tilesFrom (now lens) (now flat)) ≤ length (now cells)) ⌝ }
     requires { ⌜ IsCut g (now sizes) (now p) × (now table ≡ offsetsFrom (now sizes) (now p) (tilesFrom (now lens) (now flat)) (g .wide * g .span)) ⌝ }
     ensures { λ _. ⌜ Loaded (now (sizes .entry)) (now (p .entry)) (tilesFrom (now (lens .entry)) (now (flat .entry))) (now (cells .entry)) (prod (now (sizes .entry))) (now (destination .entry)) (now (destination .exit)) ⌝ }
@@ -149,7 +148,7 @@ fn unpack_rows(
     while q < steps {
         let r = row_steps(sizes, p, lens, flat, g, q, m);
         let n = q * span;
-        let base = tiling::offset_by(sizes, p, lens, flat, d, n, m);
+        let base = tiling::offset_by(sizes, p, lens, flat, dims, n, m);
         let len = (r * span) as usize;
         gather(cells, &table[..len], base, n as usize, destination);
         q += r;
@@ -162,7 +161,7 @@ pub fn pack_with(
     p: &[u64],
     lens: &[usize],
     flat: &[u64],
-    d: Physical,
+    dims: &[u64],
     table: &mut [u64],
     source: &[u32],
     cells: &mut [u32],
@@ -170,15 +169,15 @@ pub fn pack_with(
 )
     requires { ⌜ AreMultipliers (now m) ⌝ }
     requires { ⌜ Ready (now sizes) (now p) (now lens) (now flat) ⌝ }
-    requires { ⌜ IsPhysical d (physical (now sizes) (now p) (tilesFrom (now lens) (now flat))) ⌝ }
+    requires { ⌜ now dims ≡ physical (now sizes) (now p) (tilesFrom (now lens) (now flat)) ⌝ }
     requires { ⌜ (prod (now sizes) ≤ length (now source)) × (padded (now sizes) (now p) (tilesFrom (now lens) (now flat)) ≤ length (now cells)) ⌝ }
     requires { ⌜ (0 < length (now table)) × (length (now table) ≤ 1024) ⌝ }
     ensures { λ _. ⌜ Stored (now (sizes .entry)) (now (p .entry)) (tilesFrom (now (lens .entry)) (now (flat .entry))) (now (source .entry)) (prod (now (sizes .entry))) (now (cells .entry)) (now (cells .exit)) ⌝ }
 {
     let g = cut::cut_of(sizes, p, table.len() as u64);
     let n = (g.wide * g.span) as usize;
-    offsets_into(sizes, p, lens, flat, d, n, table, m);
-    pack_rows(sizes, p, lens, flat, d, g, &table[..n], source, cells, m);
+    offsets_into(sizes, p, lens, flat, dims, n, table, m);
+    pack_rows(sizes, p, lens, flat, dims, g, &table[..n], source, cells, m);
 }
 
 // Unpacking with a lent table and multipliers.
@@ -187,7 +186,7 @@ pub fn unpack_with(
     p: &[u64],
     lens: &[usize],
     flat: &[u64],
-    d: Physical,
+    dims: &[u64],
     table: &mut [u64],
     cells: &[u32],
     destination: &mut [u32],
@@ -195,14 +194,14 @@ pub fn unpack_with(
 )
     requires { ⌜ AreMultipliers (now m) ⌝ }
     requires { ⌜ Ready (now sizes) (now p) (now lens) (now flat) ⌝ }
-    requires { ⌜ IsPhysical d (physical (now sizes) (now p) (tilesFrom (now lens) (now flat))) ⌝ }
+    requires { ⌜ now dims ≡ physical (now sizes) (now p) (tilesFrom (now lens) (now flat)) ⌝ }
     requires { ⌜ (prod (now sizes) ≤ length (now destination)) × (padded (now sizes) (now p) (tilesFrom (now lens) (now flat)) ≤ length (now cells)) ⌝ }
     requires { ⌜ (0 < length (now table)) × (length (now table) ≤ 1024) ⌝ }
     ensures { λ _. ⌜ Loaded (now (sizes .entry)) (now (p .entry)) (tilesFrom (now (lens .entry)) (now (flat .entry))) (now (cells .entry)) (prod (now (sizes .entry))) (now (destination .entry)) (now (destination .exit)) ⌝ }
 {
     let g = cut::cut_of(sizes, p, table.len() as u64);
     let n = (g.wide * g.span) as usize;
-    offsets_into(sizes, p, lens, flat, d, n, table, m);
+    offsets_into(sizes, p, lens, flat, dims, n, table, m);
     unpack_rows(
         sizes,
         p,

@@ -2,6 +2,7 @@ pub mod Tiling
 pub mod Entries
 pub mod OwnCells
 pub mod Sums
+pub mod InPlace
 pub mod Reaches
 pub mod Rows
 pub mod Levels

@@ -36,26 +36,6 @@ fn tiled_dim(ds: &[u64], ts: &[u64], i: usize) -> u64
     ts[i - n]
 }
 
-// Entry i of the index es tiled by ts.
-fn tiled_index(es: &[u64], ts: &[u64], i: usize, m: &[u64]) -> u64
-    requires { ⌜ AreMultipliers (now m) ⌝ }
-    requires { ⌜ (length (now ts) ≤ length (now es)) × (i < length (now es) + length (now ts)) ⌝ }
-    requires { ⌜ Bounded maxEntry (now ts) ⌝ }
-    ensures { λ r. ⌜ r ≡ getD (tileIndex (now (ts .entry)) (now (es .entry))) i 0 ⌝ }
-{
-    let n = es.len();
-    let k = n - ts.len();
-    if i < k {
-        return es[i];
-    }
-    if i < n {
-        let d = inner::divide(es[i], ts[i - k], m);
-        return d.quotient;
-    }
-    let d = inner::divide(es[i - ts.len()], ts[i - n], m);
-    d.remainder
-}
-
 // The shape ds tiled by ts, at the front of out.
 fn tile_dims(ds: &[u64], ts: &[u64], out: &mut [u64])
     requires { ⌜ (length (now ts) ≤ length (now ds)) × (length (now ds) + length (now ts) ≤ length (now out)) ⌝ }
@@ -71,18 +51,20 @@ fn tile_dims(ds: &[u64], ts: &[u64], out: &mut [u64])
     }
 }
 
-// The index es tiled by ts, at the front of out.
-fn tile_index(es: &[u64], ts: &[u64], out: &mut [u64], m: &[u64])
+// The index in the first len places of at, tiled by ts in place: quotients where the entries stood, remainders after them.
+fn tile_index(at: &mut [u64], len: usize, ts: &[u64], m: &[u64])
     requires { ⌜ AreMultipliers (now m) ⌝ }
-    requires { ⌜ (length (now ts) ≤ length (now es)) × (length (now es) + length (now ts) ≤ length (now out)) ⌝ }
+    requires { ⌜ (length (now ts) ≤ len) × (len + length (now ts) ≤ length (now at)) ⌝ }
     requires { ⌜ Bounded maxEntry (now ts) ⌝ }
-    ensures { λ _. ⌜ take (length (now (es .entry)) + length (now (ts .entry))) (now (out .exit)) ≡ tileIndex (now (ts .entry)) (now (es .entry)) ⌝ }
+    ensures { λ _. ⌜ take (len + length (now (ts .entry))) (now (at .exit)) ≡ tileIndex (now (ts .entry)) (take len (now (at .entry))) ⌝ }
 {
-    let n = es.len() + ts.len();
-    let mut i: usize = 0;
-    while i < n {
-        out[i] = tiled_index(es, ts, i, m);
-        i += 1;
+    let k = len - ts.len();
+    let mut j: usize = 0;
+    while j < ts.len() {
+        let d = inner::divide(at[k + j], ts[j], m);
+        at[k + j] = d.quotient;
+        at[len + j] = d.remainder;
+        j += 1;
     }
 }
 
@@ -137,52 +119,54 @@ pub fn physical_dims(sizes: &[u64], p: &[u64], lens: &[usize], flat: &[u64]) -> 
     Physical { len, at }
 }
 
-// The physical index of a point: its coordinates in the order p, and each tile on that.
-fn physical_index(point: &[u64], p: &[u64], lens: &[usize], flat: &[u64], m: &[u64]) -> Physical
+// The physical index of a point, at the front of at, and its length: its coordinates in the order p, and each tile on that.
+fn index_into(
+    point: &[u64],
+    p: &[u64],
+    lens: &[usize],
+    flat: &[u64],
+    at: &mut [u64],
+    m: &[u64],
+) -> usize
     requires { ⌜ AreMultipliers (now m) ⌝ }
-    requires { ⌜ (length (now p) ≤ maxRank) × (length (now lens) ≤ maxTiles) ⌝ }
+    requires { ⌜ (length (now p) ≤ maxRank) × (length (now lens) ≤ maxTiles) × (length (now at) ≡ maxPhysical) ⌝ }
     requires { ⌜ Under (length (now point)) (now p) ⌝ }
     requires { ⌜ Levels (now lens) (now flat) (length (now p)) ⌝ }
-    ensures { λ r. ⌜ IsPhysical r (indexOf (tilesFrom (now (lens .entry)) (now (flat .entry))) (gather (now (p .entry)) (now (point .entry)))) ⌝ }
+    ensures { λ r. ⌜ (r ≤ maxPhysical) × (take r (now (at .exit)) ≡ indexOf (tilesFrom (now (lens .entry)) (now (flat .entry))) (gather (now (p .entry)) (now (point .entry)))) ⌝ }
 {
-    let mut at = [0u64; 24];
-    gather_into(p, point, &mut at);
+    gather_into(p, point, at);
     let mut len = p.len();
     let mut l: usize = 0;
     while l < lens.len() {
         let n = lens[l];
         let a = 6 * l;
         let e = a + n;
-        let old = at;
-        tile_index(&old[..len], &flat[a..e], &mut at, m);
+        tile_index(at, len, &flat[a..e], m);
         len += n;
         l += 1;
     }
-    Physical { len, at }
+    len
 }
 
-// The offset of a point, where d is the physical shape and m the multipliers.
+// The offset of a point, where dims is the physical shape and m the multipliers.
 fn placed(
     sizes: &[u64],
     p: &[u64],
     lens: &[usize],
     flat: &[u64],
-    d: Physical,
+    dims: &[u64],
     point: &[u64],
     m: &[u64],
 ) -> u64
     requires { ⌜ AreMultipliers (now m) ⌝ }
     requires { ⌜ Ready (now sizes) (now p) (now lens) (now flat) ⌝ }
-    requires { ⌜ IsPhysical d (physical (now sizes) (now p) (tilesFrom (now lens) (now flat))) ⌝ }
+    requires { ⌜ now dims ≡ physical (now sizes) (now p) (tilesFrom (now lens) (now flat)) ⌝ }
     requires { ⌜ In (now point) (now sizes) ⌝ }
     ensures { λ r. ⌜ r ≡ offsetAt (now (sizes .entry)) (now (p .entry)) (tilesFrom (now (lens .entry)) (now (flat .entry))) (now (point .entry)) ⌝ }
 {
-    let i = physical_index(point, p, lens, flat, m);
-    let at = d.at;
-    let len = d.len;
-    let es = i.at;
-    let n = i.len;
-    radix::row_major(&at[..len], &es[..n])
+    let mut at = [0u64; 24];
+    let n = index_into(point, p, lens, flat, &mut at, m);
+    radix::row_major(dims, &at[..n])
 }
 
 // The offset of a point, where d is the physical shape.
@@ -199,8 +183,10 @@ pub fn offset_at(
     requires { ⌜ In (now point) (now sizes) ⌝ }
     ensures { λ r. ⌜ r ≡ offsetAt (now (sizes .entry)) (now (p .entry)) (tilesFrom (now (lens .entry)) (now (flat .entry))) (now (point .entry)) ⌝ }
 {
+    let at = d.at;
+    let len = d.len;
     let none = [0u64; 1];
-    placed(sizes, p, lens, flat, d, point, &none[..0])
+    placed(sizes, p, lens, flat, &at[..len], point, &none[..0])
 }
 
 // The offset of element number n, where d is the physical shape.
@@ -216,24 +202,24 @@ pub fn offset_in(sizes: &[u64], p: &[u64], lens: &[usize], flat: &[u64], d: Phys
     offset_at(sizes, p, lens, flat, d, &point[..r])
 }
 
-// The offset of element number n, where d is the physical shape and m the multipliers.
+// The offset of element number n, where dims is the physical shape and m the multipliers.
 pub fn offset_by(
     sizes: &[u64],
     p: &[u64],
     lens: &[usize],
     flat: &[u64],
-    d: Physical,
+    dims: &[u64],
     n: u64,
     m: &[u64],
 ) -> u64
     requires { ⌜ AreMultipliers (now m) ⌝ }
     requires { ⌜ Ready (now sizes) (now p) (now lens) (now flat) ⌝ }
-    requires { ⌜ IsPhysical d (physical (now sizes) (now p) (tilesFrom (now lens) (now flat))) ⌝ }
+    requires { ⌜ now dims ≡ physical (now sizes) (now p) (tilesFrom (now lens) (now flat)) ⌝ }
     requires { ⌜ n < prod (now sizes) ⌝ }
     ensures { λ r. ⌜ r ≡ offset (now (sizes .entry)) (now (p .entry)) (tilesFrom (now (lens .entry)) (now (flat .entry))) n ⌝ }
 {
     let mut point = [0u64; 6];
     radix::digits_into(sizes, n, &mut point);
     let r = sizes.len();
-    placed(sizes, p, lens, flat, d, &point[..r], m)
+    placed(sizes, p, lens, flat, dims, &point[..r], m)
 }

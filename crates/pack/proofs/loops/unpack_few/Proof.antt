@@ -18,7 +18,7 @@ slice-aggregate-unpack-with-2 c = search needs
 -- the empty table has no entry that could be wrong
 unpack-with-requires : tie.Need-unpack-with-requires
 unpack-with-requires c κs =
-    let s = c .before .before .before .before .before .before .before .before .before in
+    let s = c .before .before .before .before .before .before .before .before .before .before in
     (record { at = λ k h. absurd (not-suc-le-zero h) }, (s .pre .0, (s .pre .1 .0, (s .pre .1 .1, (omega arith, omega arith)))))
 
 same-length : tie.Need-same-length

@@ -18,7 +18,7 @@ slice-aggregate-unpack-with-2 c = search needs
 unpack-with-requires : tie.Need-unpack-with-requires
 unpack-with-requires c κs =
     let m = c .before .before .before .before in
-    let s = m .before .before .before .before .before .before .before in
+    let s = m .before .before .before .before .before .before .before .before in
     (multipliers-lent (m .multipliers .result .at) (m .multipliers .ensures), (s .pre .0, (s .pre .1 .0, (s .pre .1 .1, (omega arith, omega arith)))))
 
 same-length : tie.Need-same-length

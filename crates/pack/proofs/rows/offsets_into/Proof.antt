@@ -15,13 +15,13 @@ use Rattle.pack.proofs.rows.offsets_into.Statement.{statement}
 use Rattle.pack.proofs.rows.offsets_into.Tie as tie
 
 abbrev Inv-loop : tie.InvT-loop
-Inv-loop sizes p lens flat d n table₀ m j₀ table j = (j ≤ n) × (length table ≡ length table₀) × (take j table ≡ take j (tab (offset sizes p (tilesFrom lens flat)) n))
+Inv-loop sizes p lens flat dims n table₀ m j₀ table j = (j ≤ n) × (length table ≡ length table₀) × (take j table ≡ take j (tab (offset sizes p (tilesFrom lens flat)) n))
 
 abbrev μ-loop : tie.MeasureT-loop
-μ-loop sizes p lens flat d n table₀ m j₀ table j = n - j
+μ-loop sizes p lens flat dims n table₀ m j₀ table j = n - j
 
 abbrev start : tie.At-loop Inv-loop μ-loop → tie.Start Inv-loop μ-loop
-start c = c .before .before .before .before .before .before .before
+start c = c .before .before .before .before .before .before .before .before
 
 abbrev F : tie.Start Inv-loop μ-loop → ℕ → ℕ
 F s = offset (now (s .args .sizes)) (now (s .args .p)) (tilesFrom (now (s .args .lens)) (now (s .args .flat)))

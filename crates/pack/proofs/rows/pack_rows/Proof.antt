@@ -18,20 +18,20 @@ use Rattle.pack.proofs.rows.pack_rows.Statement.{statement}
 use Rattle.pack.proofs.rows.pack_rows.Tie as tie
 
 abbrev Inv-loop : tie.InvT-loop
-Inv-loop sizes p lens flat d g table source cells₀ m steps span q₀ cells q = (q ≤ g .steps) × (length cells ≡ length cells₀) × Stored sizes p (tilesFrom lens flat) source (q * g .span) cells₀ cells
+Inv-loop sizes p lens flat dims g table source cells₀ m steps span q₀ cells q = (q ≤ g .steps) × (length cells ≡ length cells₀) × Stored sizes p (tilesFrom lens flat) source (q * g .span) cells₀ cells
 
 abbrev μ-loop : tie.MeasureT-loop
-μ-loop sizes p lens flat d g table source cells₀ m steps span q₀ cells q = g .steps - q
+μ-loop sizes p lens flat dims g table source cells₀ m steps span q₀ cells q = g .steps - q
 
 abbrev start : tie.At-loop Inv-loop μ-loop → tie.Start Inv-loop μ-loop
-start c = c .before .before .before .before .before .before .before .before .before
+start c = c .before .before .before .before .before .before .before .before .before .before
 
 abbrev Tss : tie.Start Inv-loop μ-loop → List (List ℕ)
 Tss s = tilesFrom (now (s .args .lens)) (now (s .args .flat))
 
 loop-holds : tie.Need-loop-holds Inv-loop μ-loop
 loop-holds c =
-    let s = c .before .before .before .before .before .before .before .before in
+    let s = c .before .before .before .before .before .before .before .before .before in
     let cells = now (s .args .cells) in
     (search needs, refl, subst (λ (n : ℕ). Stored (now (s .args .sizes)) (now (s .args .p)) (Tss s) (now (s .args .source)) n cells cells) (sym (zero-mul (s .args .g .span))) (store-none (now (s .args .sizes)) (now (s .args .p)) (Tss s) (now (s .args .source)) cells))
 

@@ -21,7 +21,7 @@ mul-n c = search needs
 
 -- where the function starts
 abbrev start : tie.After-cut-of → tie.Start
-start c = c .before .before .before .before .before .before .before .before .before
+start c = c .before .before .before .before .before .before .before .before .before .before
 
 -- the widest row is some of the elements
 few : (c : tie.After-cut-of) → c .cut-of .result .wide * c .cut-of .result .span ≤ prod (now (start c .args .sizes))

@@ -18,20 +18,20 @@ use Rattle.pack.proofs.rows.unpack_rows.Statement.{statement}
 use Rattle.pack.proofs.rows.unpack_rows.Tie as tie
 
 abbrev Inv-loop : tie.InvT-loop
-Inv-loop sizes p lens flat d g table cells destination₀ m steps span q₀ destination q = (q ≤ g .steps) × (length destination ≡ length destination₀) × Loaded sizes p (tilesFrom lens flat) cells (q * g .span) destination₀ destination
+Inv-loop sizes p lens flat dims g table cells destination₀ m steps span q₀ destination q = (q ≤ g .steps) × (length destination ≡ length destination₀) × Loaded sizes p (tilesFrom lens flat) cells (q * g .span) destination₀ destination
 
 abbrev μ-loop : tie.MeasureT-loop
-μ-loop sizes p lens flat d g table cells destination₀ m steps span q₀ destination q = g .steps - q
+μ-loop sizes p lens flat dims g table cells destination₀ m steps span q₀ destination q = g .steps - q
 
 abbrev start : tie.At-loop Inv-loop μ-loop → tie.Start Inv-loop μ-loop
-start c = c .before .before .before .before .before .before .before .before .before
+start c = c .before .before .before .before .before .before .before .before .before .before
 
 abbrev Tss : tie.Start Inv-loop μ-loop → List (List ℕ)
 Tss s = tilesFrom (now (s .args .lens)) (now (s .args .flat))
 
 loop-holds : tie.Need-loop-holds Inv-loop μ-loop
 loop-holds c =
-    let s = c .before .before .before .before .before .before .before .before in
+    let s = c .before .before .before .before .before .before .before .before .before in
     let destination = now (s .args .destination) in
     (search needs, refl, subst (λ (n : ℕ). Loaded (now (s .args .sizes)) (now (s .args .p)) (Tss s) (now (s .args .cells)) n destination destination) (sym (zero-mul (s .args .g .span))) (load-none (now (s .args .sizes)) (now (s .args .p)) (Tss s) (now (s .args .cells)) destination))
 
