@@ -7,7 +7,7 @@ use native.Mathlib.Omega.{arith}
 use mathlib.Core.Logic.{⊎-elim, _⊎_, inl, inr}
 use mathlib.Core.List.{List, _∷_, _++_}
 use lib.ListN.{length, getD, take, drop, set, replicate}
-use lib.Seq.{getD-append-add, take-suc-set, take-suc, drop-set-lt, drop-drop, drop-cons}
+use lib.Seq.{getD-append-add, take-suc-set, take-suc, drop-cons}
 
 pub le-or-lt : (a b : ℕ) → (a ≤ b) ⊎ (b < a)
 le-or-lt zero b = inl zero-le
@@ -25,10 +25,6 @@ rest-of xs i h = rw (add-one) (drop-cons xs i 0 h)
 -- a loop that fills the front of out with T, entry by entry
 pub fill-next : (out T : List ℕ) (i : ℕ) → i < length out → i < length T → take i out ≡ take i T → take (i + 1) (set out i (getD T i 0)) ≡ take (i + 1) T
 fill-next out T i h g e = rw (add-one, take-suc-set out i (getD T i 0) h, e, take-suc T i 0 g)
-
--- and what lies past the front stays
-pub rest-next : (out out₀ : List ℕ) (i v : ℕ) → drop i out ≡ drop i out₀ → drop (i + 1) (set out i v) ≡ drop (i + 1) out₀
-rest-next out out₀ i v e = drop-set-lt (i + 1) out i v (omega arith) ∙ sym (drop-drop 1 i out) ∙ ap (drop 1) e ∙ drop-drop 1 i out₀
 
 -- what is left of a row of equal entries
 pub drop-replicate : (k n x : ℕ) → drop k (replicate n x) ≡ replicate (n - k) x

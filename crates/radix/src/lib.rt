@@ -50,14 +50,13 @@ pub fn digits_into(ds: &[u64], n: u64, out: &mut [u64])
     requires { ⌜ Sizes (now ds) ⌝ }
     ensures { λ _. ⌜ now (out .exit) ≡ digits (now (ds .entry)) n ++ drop (length (now (ds .entry))) (now (out .entry)) ⌝ }
 {
-    let mut p = product(ds);
     let mut k = n;
-    let mut i: usize = 0;
-    while i < ds.len() {
-        p = p / ds[i];
-        out[i] = k / p;
-        k = k % p;
-        i += 1;
+    let mut i = ds.len();
+    while 0 < i {
+        i -= 1;
+        let d = ds[i];
+        out[i] = k % d;
+        k = k / d;
     }
 }
 

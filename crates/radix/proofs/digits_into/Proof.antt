@@ -1,53 +1,44 @@
 use borrow.Author.Needs.{needs}
-use mathlib.Core.Path.{_≡_, refl, sym, ap, _∙_}
-use mathlib.Core.List.{List, _++_}
+use mathlib.Core.Path.{_≡_, refl, ap, _∙_, subst}
+use mathlib.Core.List.{_++_}
 use Prim.Native.Nat.{ℕ, _≤_, _<_, _-_, _+_, _/_, _%_}
 use native.Mathlib.Omega.{arith}
-use native.Mathlib.Nat.{min-eq-left}
+use native.Mathlib.Nat.{div-one, mod-eq-of-lt}
 use denote.Ref.{now}
-use lib.ListN.{length, drop, getD, take, set, take-append-drop}
+use lib.ListN.{length, drop, getD, set}
+use lib.Seq.{drop-length}
 use Rattle.radix.specs.Radix.{prod, digits, Bounded}
-use Rattle.radix.proofs.Lists.{rest-next}
-use Rattle.radix.proofs.Loops.{rest-pos, digits-next, digits-end, prod-step}
+use Rattle.radix.proofs.Loops.{Behind, digits-before, quotient-before}
 use Rattle.radix.proofs.digits_into.Statement.{statement}
 use Rattle.radix.proofs.digits_into.Tie as tie
 
+-- k is the quotient of n by the sizes from i on, whose digits stand already
 abbrev Inv-loop : tie.InvT-loop
-Inv-loop ds n out₀ p₀ k₀ i₀ out p k i = (i ≤ length ds) × (length out ≡ length out₀) × (p ≡ prod (drop i ds)) × (take i out ++ digits (drop i ds) k ≡ digits ds n) × (drop i out ≡ drop i out₀)
+Inv-loop ds n out₀ k₀ i₀ out k i = (i ≤ length ds) × (length out ≡ length out₀) × (k ≡ n / prod (drop i ds)) × Behind ds n out (drop (length ds) out₀) i
 
 abbrev μ-loop : tie.MeasureT-loop
-μ-loop ds n out₀ p₀ k₀ i₀ out p k i = length ds - i
-
-product-requires : tie.Need-product-requires Inv-loop μ-loop
-product-requires c κs = search needs
+μ-loop ds n out₀ k₀ i₀ out k i = i
 
 loop-holds : tie.Need-loop-holds Inv-loop μ-loop
-loop-holds c = (search needs, refl, c .product .ensures ∙ min-eq-left (omega arith), refl, refl)
+loop-holds c =
+    let ds = now (c .args .ds) in
+    (search needs, refl, rw (drop-length ds, div-one), rw (drop-length ds) refl)
 
-mul-p : tie.Need-mul-p Inv-loop μ-loop
-mul-p c = search needs
+sub-i : tie.Need-sub-i Inv-loop μ-loop
+sub-i c = search needs
 
-shared-slice-read-p : tie.Need-shared-slice-read-p Inv-loop μ-loop
-shared-slice-read-p c = search needs
+mul-d : tie.Need-mul-d Inv-loop μ-loop
+mul-d c = search needs
 
-size-pos : (c : tie.In-loop Inv-loop μ-loop) → 0 < getD (now (c .before .before .before .before .before .args .ds)) (c .before .loop .i) 0
+shared-slice-read-d : tie.Need-shared-slice-read-d Inv-loop μ-loop
+shared-slice-read-d c = search needs
+
+size-pos : (c : tie.In-loop Inv-loop μ-loop) → 0 < getD (now (c .before .before .args .ds)) (c .before .loop .i - 1) 0
 unfolding Bounded
-size-pos c = c .before .before .before .before .before .pre .1 (c .before .loop .i) (c .loop-test .taken) .0
+size-pos c = c .before .before .pre .1 (c .before .loop .i - 1) (omega (arith, c .loop-test .taken)) .0
 
--- what the division leaves is the product of the sizes after i
-step : (c : tie.In-loop Inv-loop μ-loop) → c .before .loop .p / getD (now (c .before .before .before .before .before .args .ds)) (c .before .loop .i) 0 ≡ prod (drop (c .before .loop .i + 1) (now (c .before .before .before .before .before .args .ds)))
-step c =
-    let ds = now (c .before .before .before .before .before .args .ds) in
-    ap (λ (q : ℕ). q / getD ds (c .before .loop .i) 0) (c .before .loop .inv .2) ∙ prod-step ds (c .before .loop .i) (c .loop-test .taken) (size-pos c)
-
-step-pos : (c : tie.In-loop Inv-loop μ-loop) → 0 < c .before .loop .p / getD (now (c .before .before .before .before .before .args .ds)) (c .before .loop .i) 0
-step-pos c = omega (arith, step c, rest-pos (now (c .before .before .before .before .before .args .ds)) (c .before .loop .i + 1) (c .before .before .before .before .before .pre .1))
-
-div-p : tie.Need-div-p Inv-loop μ-loop
-div-p c = size-pos (c .before)
-
-div-out : tie.Need-div-out Inv-loop μ-loop
-div-out c = step-pos (c .before)
+rem-out : tie.Need-rem-out Inv-loop μ-loop
+rem-out c = size-pos (c .before)
 
 mul-out : tie.Need-mul-out Inv-loop μ-loop
 mul-out c = search needs
@@ -55,26 +46,27 @@ mul-out c = search needs
 slice-write-out : tie.Need-slice-write-out Inv-loop μ-loop
 slice-write-out c = search needs
 
-rem-k : tie.Need-rem-k Inv-loop μ-loop
-rem-k c = step-pos (c .before)
-
-add-i : tie.Need-add-i Inv-loop μ-loop
-add-i c = search needs
+div-k : tie.Need-div-k Inv-loop μ-loop
+div-k c = size-pos (c .before)
 
 loop-less : tie.Need-loop-less Inv-loop μ-loop
 loop-less c = search needs
 
 loop-again : tie.Need-loop-again Inv-loop μ-loop
 loop-again c =
+    let s = c .before .before .before in
     let l = c .before .before .loop in
-    let ds = now (c .before .before .before .before .before .before .args .ds) in (
+    let ds = now (s .args .ds) in
+    let n = s .args .n in
+    let rest = drop (length ds) (now (s .args .out)) in
+    let j = l .i - 1 in
+    let e : l .i ≡ j + 1 = omega (arith, c .before .loop-test .taken) in
+    let k : l .k ≡ n / prod (drop (j + 1) ds) = l .inv .2 ∙ ap (λ (i : ℕ). n / prod (drop i ds)) e in
+    let o = subst (Behind ds n (l .out) rest) e (l .inv .3) in (
       search needs,
       search needs,
-      step (c .before),
-      ap (λ (q : ℕ). take (l .i + 1) (set (l .out) (l .i) (l .k / q)) ++ digits (drop (l .i + 1) ds) (l .k % q)) (step (c .before))
-          ∙ digits-next ds (l .out) (l .i) (l .k) (c .before .loop-test .taken) (omega arith)
-          ∙ l .inv .3,
-      rest-next (l .out) (now (c .before .before .before .before .before .before .args .out)) (l .i) _ (l .inv .4),
+      ap (λ (x : ℕ). x / getD ds j 0) k ∙ quotient-before ds j n (omega arith),
+      ap (λ (x : ℕ). drop j (set (l .out) j (x % getD ds j 0))) k ∙ digits-before ds (l .out) rest j n (s .pre .1) (omega arith) (omega arith) o,
     )
 
 same-length : tie.Need-same-length Inv-loop μ-loop
@@ -82,12 +74,14 @@ same-length c = search needs
 
 returns : tie.Need-returns Inv-loop μ-loop
 returns c =
+    let s = c .before .before in
     let l = c .before .loop in
-    let ds = now (c .before .before .before .before .before .args .ds) in
-    let e : l .i ≡ length ds = omega arith in
-    sym (take-append-drop (l .i) (l .out))
-    ∙ ap (λ (front : List ℕ). front ++ drop (l .i) (l .out)) (sym (digits-end ds (l .out) (l .i) (l .k) (c .loop-test .left)) ∙ l .inv .3)
-    ∙ ap (λ (back : List ℕ). digits ds (c .before .before .before .before .before .args .n) ++ back) (l .inv .4 ∙ ap (λ (j : ℕ). drop j (now (c .before .before .before .before .before .args .out))) e)
+    let ds = now (s .args .ds) in
+    let n = s .args .n in
+    let rest = drop (length ds) (now (s .args .out)) in
+    let e : l .i ≡ 0 = omega (arith, c .loop-test .left) in
+    let o = subst (Behind ds n (l .out) rest) e (l .inv .3) in
+    o ∙ ap (λ (k : ℕ). digits ds k ++ rest) (mod-eq-of-lt (s .pre .0 .2))
 
 pub digits-into-spec : {M : Type 1} → statement M
 digits-into-spec =
@@ -95,16 +89,14 @@ digits-into-spec =
     (tie.spec
     Inv-loop
     μ-loop
-    product-requires
     loop-holds
-    mul-p
-    shared-slice-read-p
-    div-p
-    div-out
+    sub-i
+    mul-d
+    shared-slice-read-d
+    rem-out
     mul-out
     slice-write-out
-    rem-k
-    add-i
+    div-k
     loop-less
     loop-again
     same-length
