@@ -207,7 +207,7 @@ pub fn unpack_with(
         p,
         lens,
         flat,
-        d,
+        dims,
         g,
         &table[..n],
         cells,

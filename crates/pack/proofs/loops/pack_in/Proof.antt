@@ -47,10 +47,13 @@ physical-dims-requires c κs =
     let r = c .before .before .before .before .before .before .pre .0 .shaped in
     ((omega (arith, r .rank, r .few), r .tiles), (shaped-under r _ refl, (r .small, r .levels)))
 
+within : (c : tie.After-physical-dims) → c .physical-dims .result .len ≤ length (c .physical-dims .result .at)
+within c =
+    let e : length (c .physical-dims .result .at) ≡ maxPhysical = search needs in
+    omega (arith, c .physical-dims .ensures .fits)
+
 array-share-prefix-at : tie.Need-array-share-prefix-at
-array-share-prefix-at c =
-    let e : length (c .before .physical-dims .result .at) ≡ maxPhysical = search needs in
-    omega (arith, c .before .physical-dims .ensures .fits)
+array-share-prefix-at c = within (c .before)
 
 slice-aggregate-product : tie.Need-slice-aggregate-product
 slice-aggregate-product c = sym (long (c .before .before))
@@ -80,19 +83,31 @@ whole e out l stored =
     pack-whole (now (s .args .sizes)) (now (s .args .p)) (Tss s) (shaped-valid (s .pre .0 .shaped)) (now (s .args .source)) cells out (l ∙ e .clear-padding .kept .0)
     (subst (λ (x : List ℕ). Stored (now (s .args .sizes)) (now (s .args .p)) (Tss s) (now (s .args .source)) (prod (now (s .args .sizes))) x out) first stored)
 
+array-share-prefix-at-2 : tie.Need-array-share-prefix-at-2
+array-share-prefix-at-2 c = within (c .before .before .before .before .before .before .before .before .before)
+
+slice-aggregate-pack-few : tie.Need-slice-aggregate-pack-few
+slice-aggregate-pack-few c = sym (long (c .before .before .before .before .before .before .before .before .before .before))
+
 pack-few-requires : tie.Need-pack-few-requires
 pack-few-requires c κs =
-    let e = c .before .before .before .before in
+    let e = c .before .before .before .before .before in
     let d = e .before .before .before .before .before .before in
     let s = start d in
-    (s .pre .0, (d .physical-dims .ensures, (s .pre .1 .0, ready e)))
+    (s .pre .0, (d .physical-dims .ensures .same, (s .pre .1 .0, ready e)))
+
+array-share-prefix-at-3 : tie.Need-array-share-prefix-at-3
+array-share-prefix-at-3 c = within (c .before .before .before .before .before .before .before .before .before)
+
+slice-aggregate-pack-many : tie.Need-slice-aggregate-pack-many
+slice-aggregate-pack-many c = sym (long (c .before .before .before .before .before .before .before .before .before .before))
 
 pack-many-requires : tie.Need-pack-many-requires
 pack-many-requires c κs =
-    let e = c .before .before .before .before in
+    let e = c .before .before .before .before .before in
     let d = e .before .before .before .before .before .before in
     let s = start d in
-    (s .pre .0, (d .physical-dims .ensures, (s .pre .1 .0, ready e)))
+    (s .pre .0, (d .physical-dims .ensures .same, (s .pre .1 .0, ready e)))
 
 same-length : tie.Need-same-length
 same-length c = search needs
@@ -100,7 +115,7 @@ same-length c = search needs
 returns : tie.Need-returns
 returns c =
     let k = c .before .before in
-    whole (k .before .before .before .before .before) (k .pack-few .last .1 .1 .1 .1 .1 .1 .0) (k .pack-few .kept .1 .1 .1 .1 .1 .1 .0) (k .pack-few .ensures)
+    whole (k .before .before .before .before .before .before) (k .pack-few .last .1 .1 .1 .1 .1 .1 .0) (k .pack-few .kept .1 .1 .1 .1 .1 .1 .0) (k .pack-few .ensures)
 
 same-length-2 : tie.Need-same-length-2
 same-length-2 c = search needs
@@ -108,7 +123,7 @@ same-length-2 c = search needs
 returns-2 : tie.Need-returns-2
 returns-2 c =
     let k = c .before .before in
-    whole (k .before .before .before .before .before) (k .pack-many .last .1 .1 .1 .1 .1 .1 .0) (k .pack-many .kept .1 .1 .1 .1 .1 .1 .0) (k .pack-many .ensures)
+    whole (k .before .before .before .before .before .before) (k .pack-many .last .1 .1 .1 .1 .1 .1 .0) (k .pack-many .kept .1 .1 .1 .1 .1 .1 .0) (k .pack-many .ensures)
 
 pub pack-in-spec : {M : Type 1} → statement M
 pack-in-spec =
@@ -120,7 +135,11 @@ pack-in-spec =
     product-requires
     product-requires-2
     clear-padding-requires
+    array-share-prefix-at-2
+    slice-aggregate-pack-few
     pack-few-requires
+    array-share-prefix-at-3
+    slice-aggregate-pack-many
     pack-many-requires
     same-length
     returns
