@@ -47,7 +47,7 @@ fn plain_in(
     clear(cells, size);
     let mut n: u64 = 0;
     while n < count {
-        let o = tiling::offset_by(sizes, p, lens, flat, d, n, m) as usize;
+        let o = tiling::offset_by(sizes, p, lens, flat, &at[..len], n, m) as usize;
         let k = n as usize;
         cells[o] = source[k];
         n += 1;

@@ -82,40 +82,49 @@ loop-holds c = (search needs, refl)
 below : (c : tie.In-loop Inv-loop μ-loop) → c .before .loop .n < prod (now (startL (c .before) .args .sizes))
 below c = subst (λ (m : ℕ). c .before .loop .n < m) (count (c .before .before .before .before .before .before)) (c .loop-test .taken)
 
+array-share-prefix-at-2 : tie.Need-array-share-prefix-at-2 Inv-loop μ-loop
+array-share-prefix-at-2 c =
+    let d = dimsL (c .before) in
+    let e : length (d .physical-dims .result .at) ≡ maxPhysical = search needs in
+    omega (arith, d .physical-dims .ensures .fits)
+
+slice-aggregate-offset-by : tie.Need-slice-aggregate-offset-by Inv-loop μ-loop
+slice-aggregate-offset-by c = sym (long (dimsL (c .before .before)))
+
 offset-by-requires : tie.Need-offset-by-requires Inv-loop μ-loop
-offset-by-requires c κs = (startL (c .before) .pre .0, (startL (c .before) .pre .1 .0, (dimsL (c .before) .physical-dims .ensures, below c)))
+offset-by-requires c κs = let s = startL (c .before .before) in (s .pre .0, (s .pre .1 .0, (dimsL (c .before .before) .physical-dims .ensures .same, below (c .before))))
 
 -- the cell is inside
-inside : (c : tie.After-offset-by Inv-loop μ-loop) → c .offset-by .result < length (c .before .before .loop .cells)
+inside : (c : tie.After-offset-by Inv-loop μ-loop) → (c .offset-by .result < length (c .before .before .before .loop .cells)) × (c .offset-by .result < maxCount)
 inside c =
-    let l = c .before .before in
+    let l = c .before .before .before in
     let s = startL l in
-    omega (arith, c .offset-by .ensures, offset-below (now (s .args .sizes)) (now (s .args .p)) (Tss s) (shaped-valid (s .pre .1 .0 .shaped)) (l .loop .n) (below (c .before)), s .pre .1 .1 .1, l .loop .inv .1, l .before .before .before .clear .kept .0)
+    omega (arith, c .offset-by .ensures, offset-below (now (s .args .sizes)) (now (s .args .p)) (Tss s) (shaped-valid (s .pre .1 .0 .shaped)) (l .loop .n) (below (c .before .before)), s .pre .1 .1 .1, s .pre .1 .0 .room, l .loop .inv .1, l .before .before .before .clear .kept .0)
 
 mul-cells : tie.Need-mul-cells Inv-loop μ-loop
-mul-cells c = omega (arith, below (c .before), startL (c .before .before) .pre .1 .0 .shaped .count)
+mul-cells c = omega (arith, below (c .before .before), startL (c .before .before .before) .pre .1 .0 .shaped .count)
 
 shared-slice-read-cells : tie.Need-shared-slice-read-cells Inv-loop μ-loop
-shared-slice-read-cells c = omega (arith, below (c .before .before), startL (c .before .before .before) .pre .1 .1 .0)
+shared-slice-read-cells c = omega (arith, below (c .before .before .before), startL (c .before .before .before .before) .pre .1 .1 .0)
 
 mul-cells-2 : tie.Need-mul-cells-2 Inv-loop μ-loop
-mul-cells-2 c = omega (arith, c .before .offset-by .ensures, offset-below (now (startL (c .before .before .before) .args .sizes)) (now (startL (c .before .before .before) .args .p)) (Tss (startL (c .before .before .before))) (shaped-valid (startL (c .before .before .before) .pre .1 .0 .shaped)) (c .before .before .before .loop .n) (below (c .before .before)), startL (c .before .before .before) .pre .1 .0 .room)
+mul-cells-2 c = omega (arith, inside (c .before))
 
 slice-write-cells : tie.Need-slice-write-cells Inv-loop μ-loop
-slice-write-cells c = inside (c .before)
+slice-write-cells c = inside (c .before) .0
 
 add-n : tie.Need-add-n Inv-loop μ-loop
-add-n c = omega (arith, below (c .before .before), startL (c .before .before .before) .pre .1 .0 .shaped .count)
+add-n c = omega (arith, below (c .before .before .before), startL (c .before .before .before .before) .pre .1 .0 .shaped .count)
 
 loop-less : tie.Need-loop-less Inv-loop μ-loop
-loop-less c = falls (c .before .before .before .before .before .before .before .before .product2 .result) (c .before .before .before .loop .n) (c .before .before .loop-test .taken)
+loop-less c = falls (c .before .before .before .before .before .before .before .before .before .product2 .result) (c .before .before .before .before .loop .n) (c .before .before .before .loop-test .taken)
 
 loop-again : tie.Need-loop-again Inv-loop μ-loop
 loop-again c =
-    let l = c .before .before .before in
+    let l = c .before .before .before .before in
     let s = startL l in
     let o = c .before .offset-by in
-    (omega (arith, c .before .before .loop-test .taken), length-set (l .loop .cells) (o .result) (getD (now (s .args .source)) (l .loop .n) 0) ∙ l .loop .inv .1)
+    (omega (arith, c .before .before .before .loop-test .taken), length-set (l .loop .cells) (o .result) (getD (now (s .args .source)) (l .loop .n) 0) ∙ l .loop .inv .1)
 
 same-length : tie.Need-same-length Inv-loop μ-loop
 same-length c = c .before .loop .inv .1 ∙ c .before .before .before .before .clear .kept .0
@@ -136,6 +145,8 @@ plain-in-spec =
     product-requires-2
     clear-requires
     loop-holds
+    array-share-prefix-at-2
+    slice-aggregate-offset-by
     offset-by-requires
     mul-cells
     shared-slice-read-cells
