@@ -1,13 +1,13 @@
 -- The laws of a cut: its steps are the elements, and from every step on a row has the steps that the tiles leave room for. Assumes nothing.
 use mathlib.Core.Path.{_≡_, refl, sym, ap, _∙_, subst}
-use Prim.Native.Nat.{ℕ, suc, _+_, _-_, _*_, _/_, _%_, _<_, _≤_, min}
-use native.Mathlib.Nat.{mul-lt-mul-of-pos-right, le-of-mul-le-mul-right, mul-le-mul-right, div-lt-iff-lt-mul, mod-lt, add-zero, one-mul, mul-assoc, le-mul-of-pos-right, min-le-left, min-le-right}
+use Prim.Native.Nat.{ℕ, suc, _+_, _-_, _*_, _/_, _%_, _<_, _≤_}
+use native.Mathlib.Nat.{mul-lt-mul-of-pos-right, le-of-mul-le-mul-right, mul-le-mul-right, div-lt-iff-lt-mul, one-mul, le-mul-of-pos-right}
 use native.Mathlib.Numerals.{add-one}
 use native.Mathlib.Omega.{arith}
 use mathlib.Core.List.{List, [], _∷_}
 use lib.ListN.{length, getD, take, drop, length-drop}
 use lib.Seq.{drop-cons, getD-drop, getD-take, length-take-le, take-all}
-use Rattle.radix.specs.Radix.{prod, tab, Sizes, Bounded}
+use Rattle.radix.specs.Radix.{prod, Sizes, Bounded}
 use Rattle.radix.proofs.Radix.{getD-tab, length-tab}
 use Rattle.radix.proofs.Loops.{rest-pos}
 use Rattle.shape.specs.Dimensions.{place, Permutation}

@@ -1,7 +1,6 @@
 -- Packing and unpacking as a whole, from what the walks over rows leave. Assumes nothing.
-use mathlib.Core.Path.{_≡_, refl, sym, ap, _∙_, subst}
+use mathlib.Core.Path.{_≡_, refl, sym, ap, _∙_}
 use mathlib.Core.Bool.{Bool, true, false, cond}
-use mathlib.Core.Logic.{⊎-elim}
 use Prim.Native.Nat.{ℕ, _+_, _-_, _<_, _≤_}
 use native.Mathlib.Omega.{arith}
 use mathlib.Core.List.{List, _++_}
@@ -17,7 +16,7 @@ use Rattle.pack.specs.Rows.{put, putAt, Stored, Loaded, startOf}
 use lib.Dec.{ltb}
 use lib.ListN.{length, getD, drop, replicate, length-append, length-drop, length-replicate, getD-replicate, List·getD-append}
 use lib.Seq.{getD-drop, ext-getD}
-use borrow.Author.Tests.{lt-ltb, le-ltb, ltb-true, ltb-false}
+use borrow.Author.Tests.{lt-ltb, ltb-true, ltb-false}
 
 -- the first m places cleared
 cleared-at : (m : ℕ) (cells : List ℕ) (k : ℕ) → getD (replicate m 0 ++ drop m cells) k 0 ≡ cond (ltb k m) 0 (getD cells k 0)

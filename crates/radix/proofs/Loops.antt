@@ -1,6 +1,6 @@
 -- What a loop over a list keeps: the answer of what is left of it. Assumes nothing.
 use mathlib.Core.Path.{_≡_, sym, ap, _∙_}
-use Prim.Native.Nat.{ℕ, suc, _+_, _-_, _*_, _/_, _%_, _<_, _≤_}
+use Prim.Native.Nat.{ℕ, suc, _+_, _*_, _/_, _%_, _<_, _≤_}
 use native.Mathlib.Nat.{mul-assoc, mul-comm, mul-one, suc-mul, add-mul, add-assoc, add-zero, mul-pos, le-mul-of-pos-right, mul-le-mul-right}
 use native.Mathlib.Nat.{div-add-mod', div-div-eq-div-mul, div-eq-of-lt, mod-eq-of-lt, mod-lt, mod-mod, mul-add-div-right, mul-add-mod-self-right}
 use native.Mathlib.Numerals.{add-one}

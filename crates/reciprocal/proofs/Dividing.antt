@@ -1,6 +1,6 @@
 -- A number below 2^24 times the multiplier of d, floor-divided by 2^34, is the number divided by d. Assumes nothing.
 use mathlib.Core.Path.{_≡_, refl, sym, ap, _∙_, subst}
-use mathlib.Core.Bool.{Bool, true, _&&_}
+use mathlib.Core.Bool.{Bool, true}
 use mathlib.Core.List.{List}
 use Prim.Native.Nat.{ℕ, _+_, _-_, _*_, _/_, _%_, _<_, _≤_}
 use native.Mathlib.Nat.{div-add-mod', mod-lt, div-eq-of-lt-le, mul-assoc, mul-comm, add-mul, one-mul, mul-le-mul-left, mul-le-mul-right, lt-of-mul-lt-mul-right}

@@ -1,21 +1,21 @@
 -- A reach under one tile, case by case, and what a loop over the tiles keeps. Assumes nothing.
-use mathlib.Core.Path.{_≡_, refl, sym, ap, _∙_, subst}
+use mathlib.Core.Path.{_≡_, refl, sym, ap, _∙_}
 use mathlib.Core.Bool.{Bool, true, false, cond}
 use Prim.Native.Nat.{ℕ, _+_, _-_, _*_, _/_, _%_, _^_, _<_, _≤_, min}
 use native.Mathlib.Nat.{mul-le-mul, mul-comm, pow-succ', pow-le-pow-right}
 use native.Mathlib.Numerals.{add-one}
 use native.Mathlib.Omega.{arith}
-use mathlib.Core.List.{List, [], _∷_}
+use mathlib.Core.List.{List}
 use lib.Dec.{ltb, eqb}
 use lib.ListN.{length, getD, take, drop, drop-of-length-le}
 use lib.Seq.{length-take-le}
-use borrow.Author.Tests.{lt-ltb, le-ltb, eq-eqb, ne-eqb, ltb-true, ltb-false}
+use borrow.Author.Tests.{lt-ltb, le-ltb, eq-eqb, ne-eqb, ltb-false}
 use Rattle.radix.specs.Radix.{Bounded}
 use Rattle.shape.specs.Shape.{maxRank}
 use Rattle.tiling.proofs.Levels.{tiles-at, levels-at}
 use Rattle.tiling.specs.Ready.{Levels}
 use Rattle.tiling.specs.Row.{quotientReach, remainderReach, dividedReach, tiledReach, reached}
-use Rattle.tiling.specs.Tile.{maxTiles, maxEntries, maxEntry, maxPhysical, tilesFrom}
+use Rattle.tiling.specs.Tile.{maxEntries, maxEntry, tilesFrom}
 use Rattle.tiling.specs.declared.row.Reach.{Reach}
 
 module _ (ts : List ℕ) (n : ℕ) (f : Reach) where

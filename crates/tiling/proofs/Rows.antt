@@ -9,7 +9,7 @@ use mathlib.Core.List.{List, [], _∷_}
 use lib.Dec.{ltb, eqb}
 use lib.ListN.{length, getD, take, drop, length-map}
 use lib.Seq.{drop-cons}
-use borrow.Author.Tests.{ltb-true, ltb-false, eqb-true, eqb-false}
+use borrow.Author.Tests.{ltb-true, ltb-false, eqb-true}
 use Rattle.radix.specs.Radix.{prod, digits, rowMajor, Sizes, Bounded}
 use Rattle.radix.proofs.Lists.{le-or-lt}
 use Rattle.radix.proofs.Loops.{rest-pos}
@@ -20,7 +20,7 @@ use Rattle.shape.specs.Dimensions.{Permutation, isPermutation, inRange, free}
 use Rattle.tiling.proofs.OwnCells.{Valid, getD-gather}
 use Rattle.tiling.proofs.Sums.{Added, Sums, added-row, sums-tile, sums-gather, index-first, index-second, index-third}
 use Rattle.tiling.proofs.Reaches.{reach-place}
-use Rattle.tiling.proofs.Tiling.{Pos, all, one, Tiles, flat, tiled, tile-length-index}
+use Rattle.tiling.proofs.Tiling.{Pos, all, one, Tiles, tiled, tile-length-index}
 use Rattle.tiling.specs.Row.{quotientReach, remainderReach, dividedReach, tiledReach, reached, rowRoom}
 use Rattle.tiling.specs.Tile.{tileIndex, indexOf, gather, physical, offsetAt, offset}
 use Rattle.tiling.specs.declared.row.Reach.{Reach}

@@ -1,7 +1,7 @@
 -- `pack::loops::pack_in` meets its contract. Assumes nothing.
 use mathlib.Core.Path.{_≡_, refl, sym, ap, _∙_, subst}
 use mathlib.Core.List.{List}
-use Prim.Native.Nat.{ℕ, _≤_, _<_, _-_, _+_, min}
+use Prim.Native.Nat.{ℕ, _≤_, _+_, min}
 use native.Mathlib.Nat.{min-eq-left}
 use native.Mathlib.Omega.{arith}
 use denote.Ref.{now}

@@ -1,6 +1,5 @@
 -- `pack::loops::unpack_few` meets its contract. Assumes nothing.
 use borrow.Author.Needs.{needs}
-use Prim.Native.Nat.{_<_, _≤_}
 use native.Mathlib.Nat.{not-suc-le-zero}
 use native.Mathlib.Omega.{arith}
 use Rattle.pack.proofs.loops.unpack_few.Statement.{statement}

@@ -1,6 +1,5 @@
 -- `pack::loops::unpack_many` meets its contract. Assumes nothing.
 use borrow.Author.Needs.{needs}
-use Prim.Native.Nat.{_<_, _≤_}
 use native.Mathlib.Omega.{arith}
 use Rattle.reciprocal.proofs.Dividing.{multipliers-lent}
 use Rattle.pack.proofs.loops.unpack_many.Statement.{statement}

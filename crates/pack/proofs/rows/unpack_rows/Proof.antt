@@ -3,7 +3,7 @@ use borrow.Author.Needs.{needs}
 use mathlib.Core.Path.{_≡_, refl, sym, ap, _∙_, subst}
 use mathlib.Core.List.{List}
 use Prim.Native.Nat.{ℕ, _+_, _-_, _*_, _<_, _≤_}
-use native.Mathlib.Nat.{zero-mul, add-mul, mul-le-mul-right, le-mul-of-pos-right}
+use native.Mathlib.Nat.{zero-mul, add-mul, le-mul-of-pos-right}
 use native.Mathlib.Omega.{arith}
 use denote.Ref.{now}
 use lib.ListN.{length, getD, take}
@@ -11,7 +11,7 @@ use Rattle.radix.specs.Radix.{prod}
 use Rattle.tiling.specs.Tile.{tilesFrom, offset}
 use Rattle.tiling.proofs.OwnCells.{Valid, offset-below}
 use Rattle.tiling.proofs.Shaped.{shaped-valid}
-use Rattle.pack.specs.Rows.{Loaded, gathered, IsCut, IsRow, offsetsFrom}
+use Rattle.pack.specs.Rows.{Loaded, gathered, IsCut, offsetsFrom}
 use Rattle.pack.proofs.Cuts.{step-below, steps-below, row-table, table-length}
 use Rattle.pack.proofs.Walking.{load-none, load-row}
 use Rattle.pack.proofs.rows.unpack_rows.Statement.{statement}
