@@ -1,7 +1,7 @@
-// The buffers of a case: checked once with both versions, then measured.
+// The buffers of a case: checked once with every version, then measured.
 use crate::cases::Case;
 use crate::measure::{in_turn, Times};
-use crate::{library_pack, library_read, library_unpack, ordinary, plain_pack};
+use crate::{library_pack, library_read, library_unpack, ordinary, plain_pack, vectors};
 use std::cell::RefCell;
 use std::hint::black_box;
 
@@ -24,6 +24,14 @@ fn ordinary_unpack(case: &Case, cells: &[u32], destination: &mut [u32]) -> u64 {
     ordinary::unpack(&case.sizes, &case.layout, cells, destination).map_or_else(|number| number, |_| 0)
 }
 
+fn vectors_pack(case: &Case, source: &[u32], cells: &mut [u32]) -> u64 {
+    vectors::pack(&case.sizes, &case.layout, source, cells).map_or_else(|number| number, |_| 0)
+}
+
+fn vectors_unpack(case: &Case, cells: &[u32], destination: &mut [u32]) -> u64 {
+    vectors::unpack(&case.sizes, &case.layout, cells, destination).map_or_else(|number| number, |_| 0)
+}
+
 impl Buffers {
     /// Packs and unpacks by every version, and stops where they differ. Buffers are one longer than needed, to see that the rest stays.
     pub fn checked(case: &Case) -> Buffers {
@@ -37,6 +45,7 @@ impl Buffers {
             assert!(pack(&mut written) == 0 && written == cells, "{name}: packed cells differ");
         };
         same(&|w| library_pack(&row, &source, w));
+        same(&|w| vectors_pack(case, &source, w));
         same(&|w| plain_pack(&row, &source, w));
         same(&|w| plain_pack(&case.row(1), &source, w));
         let mut back = source.clone();
@@ -47,10 +56,11 @@ impl Buffers {
         };
         given(&|b| library_unpack(&row, &cells, b));
         given(&|b| ordinary_unpack(case, &cells, b));
+        given(&|b| vectors_unpack(case, &cells, b));
         Buffers { source, cells, written, back }
     }
 
-    /// The times of packing: the library, the ordinary version, a copy of the padded size, and reading the row.
+    /// The times of packing: the library, the ordinary version over arrays and over vectors, a copy of the padded size, and reading the row.
     pub fn pack_times(&mut self, case: &Case, rounds: usize) -> Vec<Times> {
         let (row, padded) = (case.row(0), case.padded());
         let Buffers { source, cells, written, .. } = self;
@@ -60,6 +70,7 @@ impl Buffers {
             &mut [
                 &mut || assert_eq!(library_pack(black_box(&row), black_box(source), &mut written.borrow_mut()), 0),
                 &mut || assert_eq!(ordinary_pack(black_box(case), black_box(source), &mut written.borrow_mut()), 0),
+                &mut || assert_eq!(vectors_pack(black_box(case), black_box(source), &mut written.borrow_mut()), 0),
                 &mut || black_box(&mut written.borrow_mut()[..padded]).copy_from_slice(black_box(&cells[..padded])),
                 &mut || assert!(library_read(black_box(&row)) <= 1 << 20),
             ],
@@ -76,6 +87,7 @@ impl Buffers {
             &mut [
                 &mut || assert_eq!(library_unpack(black_box(&row), black_box(cells), &mut back.borrow_mut()), 0),
                 &mut || assert_eq!(ordinary_unpack(black_box(case), black_box(cells), &mut back.borrow_mut()), 0),
+                &mut || assert_eq!(vectors_unpack(black_box(case), black_box(cells), &mut back.borrow_mut()), 0),
                 &mut || black_box(&mut written[..padded]).copy_from_slice(black_box(&cells[..padded])),
                 &mut || assert!(library_read(black_box(&row)) <= 1 << 20),
             ],

@@ -157,12 +157,13 @@ impl Random {
         Layout { minor_to_major, tiles }
     }
 
-    /// A shape of about 2^20 elements at most with a layout of at most 2^22 cells.
+    /// A shape of about 2^20 elements at most with a layout of at most 2^22 cells; on average one case in twenty has one element (rank 0 or more).
     pub fn case(&mut self) -> Case {
+        let one = self.below(20) == 0;
         loop {
             let sizes = self.sizes();
             let layout = self.layout(sizes.len());
-            if padded(&sizes, &layout).is_some_and(|n| n <= 1 << 22) {
+            if (product(&sizes) == Some(1)) == one && padded(&sizes, &layout).is_some_and(|n| n <= 1 << 22) {
                 return Case { sizes, layout };
             }
         }

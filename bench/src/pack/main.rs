@@ -1,4 +1,5 @@
-// Measures packing and unpacking: the library beside an ordinary packer with the machine's division and beside a copy of the padded size.
+// Measures packing and unpacking: the library beside two ordinary packers with the machine's division, one over arrays and
+// one over vectors, and beside a copy of the padded size.
 // `run pack` measures every case of the list, `run pack list` the main ones, `run pack plain` the plain loop with and without the multipliers
 // on the main ones, and `run pack random SEED N` compares and measures N random cases. One more word, as in `run pack all [4096,1024]` or
 // `run pack plain [4096,1024]`, leaves only the cases that have it in their names.
@@ -9,11 +10,13 @@ mod cases;
 mod clock;
 mod measure;
 mod ordinary;
+mod random;
 mod refused;
+mod vectors;
 
 use buffers::Buffers;
-use cases::{Case, Random};
-use measure::{short, Times};
+use cases::Case;
+use measure::short;
 
 #[allow(improper_ctypes)]
 #[link(name = "pack_bench", kind = "static")]
@@ -50,11 +53,12 @@ fn report(case: &Case) {
     let mut buffers = Buffers::checked(case);
     for what in ["pack", "unpack"] {
         let times = if what == "pack" { buffers.pack_times(case, ROUNDS) } else { buffers.unpack_times(case, ROUNDS) };
-        let [library, plain, copy, row] = &times[..] else { unreachable!() };
+        let [library, plain, vectors, copy, row] = &times[..] else { unreachable!() };
         println!(
-            "| {} | {what} | {} | {} | {} | {} | {:.2} | {:.2} |",
+            "| {} | {what} | {} | {} | {} | {} | {} | {:.2} | {:.2} |",
             case.name(),
             library.over(plain),
+            library.over(vectors),
             short(library.best()),
             short(plain.best()),
             short(copy.best()),
@@ -79,39 +83,6 @@ fn report_plain(case: &Case) {
     );
 }
 
-/// The larger of the ratios of packing and unpacking, and the same without the reading of the row; measured again with all rounds where the
-/// first few are near 1 or above.
-fn worst_ratio(case: &Case) -> (f64, f64) {
-    let mut buffers = Buffers::checked(case);
-    let mut measured = |rounds| {
-        let ratio = |times: Vec<Times>| (times[0].median_over(&times[1]), times[0].less(times[3].best()).median_over(&times[1]));
-        let (pack, unpack) = (ratio(buffers.pack_times(case, rounds)), ratio(buffers.unpack_times(case, rounds)));
-        (pack.0.max(unpack.0), pack.1.max(unpack.1))
-    };
-    let first = measured(3);
-    if first.0 < 0.8 {
-        return first;
-    }
-    measured(ROUNDS)
-}
-
-fn report_random(seed: u64, count: usize) {
-    let mut random = Random(seed);
-    let mut found: Vec<(f64, f64, String)> = Vec::new();
-    for _ in 0..count {
-        let case = random.case();
-        let (ratio, less) = worst_ratio(&case);
-        found.push((ratio, less, format!("{}, {} elements, {} cells", case.name(), case.count(), case.padded())));
-    }
-    found.sort_by(|a, b| b.0.total_cmp(&a.0));
-    let above = |f: fn(&(f64, f64, String)) -> f64| found.iter().filter(|&c| f(c) > 1.0).count();
-    println!("seed {seed}: {count} cases, {} with a ratio above 1, {} without the reading of the row", above(|c| c.0), above(|c| c.1));
-    println!("median {:.3}; the worst:", found[found.len() / 2].0);
-    for (ratio, less, name) in found.iter().take(10) {
-        println!("  {ratio:.3} ({less:.3} without the row)  {name}");
-    }
-}
-
 fn main() {
     let words: Vec<String> = std::env::args().skip(1).collect();
     let number = |k: usize, other: u64| words.get(k).map_or(other, |w| w.parse().expect("a number"));
@@ -119,13 +90,14 @@ fn main() {
     let listed = |all| cases::listed(all).into_iter().filter(|c| c.name().contains(part));
     refused::compare();
     match words.first().map_or("", |w| w) {
-        "random" => report_random(number(1, 1), number(2, 100).max(1) as usize),
+        "random" => random::report(number(1, 1), number(2, 100).max(1) as usize),
         "plain" => {
             println!("| case | table / division | division / ordinary | table / ordinary | division | table | ordinary |\n|---|---|---|---|---|---|---|");
             listed(false).for_each(|c| report_plain(&c));
         }
         word => {
-            println!("| case | call | library / ordinary | library | ordinary | copy | library / copy | without the row |\n|---|---|---|---|---|---|---|---|");
+            println!("| case | call | library / ordinary | library / ordinary over vectors | library | ordinary | copy | library / copy | without the row |");
+            println!("|---|---|---|---|---|---|---|---|---|");
             listed(word != "list").for_each(|c| report(&c));
         }
     }

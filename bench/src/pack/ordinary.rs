@@ -1,4 +1,4 @@
-// An ordinary packer: each element's digits, tiled index and offset by the machine's division, over arrays made once a call.
+// An ordinary packer over arrays: each element's digits, tiled index and offset by the machine's division, in arrays made once a call.
 
 pub struct Layout {
     pub minor_to_major: Vec<usize>,
@@ -7,17 +7,17 @@ pub struct Layout {
 
 /// A refusal's number in document 01's table.
 pub type Refused = u64;
-const SHAPE: Refused = 1;
-const LAYOUT: Refused = 3;
-const PADDED: Refused = 4;
-const BUFFER: Refused = 9;
+pub const SHAPE: Refused = 1;
+pub const LAYOUT: Refused = 3;
+pub const PADDED: Refused = 4;
+pub const BUFFER: Refused = 9;
 
-const MAX_RANK: usize = 6;
-const MAX_SIZE: u64 = 1 << 20;
+pub const MAX_RANK: usize = 6;
+pub const MAX_SIZE: u64 = 1 << 20;
 const MAX_COUNT: u64 = 1 << 40;
-const MAX_TILES: usize = 3;
-const MAX_ENTRIES: usize = 6;
-const MAX_ENTRY: u64 = 1024;
+pub const MAX_TILES: usize = 3;
+pub const MAX_ENTRIES: usize = 6;
+pub const MAX_ENTRY: u64 = 1024;
 /// The most dimensions of a physical shape.
 const MAX_DIMS: usize = MAX_RANK + MAX_TILES * MAX_ENTRIES;
 

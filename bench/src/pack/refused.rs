@@ -1,7 +1,7 @@
-// Input that breaks a rule: both versions refuse it with the same number and write nothing.
+// Input that breaks a rule: every version refuses it with the same number and writes nothing.
 use crate::cases::Case;
 use crate::ordinary::{pack, unpack, Layout};
-use crate::{library_pack, library_unpack};
+use crate::{library_pack, library_unpack, vectors};
 
 fn case(sizes: &[u64], minor_to_major: &[usize], tiles: &[&[u64]]) -> Case {
     let tiles = tiles.iter().map(|t| t.to_vec()).collect();
@@ -15,8 +15,10 @@ fn expect(number: u64, case: &Case, elements: usize, cells: usize) {
     let (mut written, mut back) = (old.clone(), source.clone());
     assert_eq!(library_pack(&row, &source, &mut written), number, "{name}");
     assert_eq!(pack(&case.sizes, &case.layout, &source, &mut written), Err(number), "{name}");
+    assert_eq!(vectors::pack(&case.sizes, &case.layout, &source, &mut written), Err(number), "{name}");
     assert_eq!(library_unpack(&row, &old, &mut back), number, "{name}");
     assert_eq!(unpack(&case.sizes, &case.layout, &old, &mut back), Err(number), "{name}");
+    assert_eq!(vectors::unpack(&case.sizes, &case.layout, &old, &mut back), Err(number), "{name}");
     assert!(written == old && back == source, "{name}: written where refused");
 }
 

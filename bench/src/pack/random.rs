@@ -1,0 +1,71 @@
+// The random mode: the library's ratios to both ordinary versions on random cases, and the worst of them.
+use crate::buffers::Buffers;
+use crate::cases::{Case, Random};
+use crate::measure::Times;
+use crate::ROUNDS;
+
+/// A ratio, and the same without the reading of the row.
+#[derive(Clone, Copy)]
+struct Ratio {
+    whole: f64,
+    less: f64,
+}
+
+impl Ratio {
+    fn max(self, other: Ratio) -> Ratio {
+        Ratio { whole: self.whole.max(other.whole), less: self.less.max(other.less) }
+    }
+}
+
+/// A case by its name and number of elements, with its ratios to the version over arrays and to the one over vectors.
+struct Found {
+    name: String,
+    elements: usize,
+    ratios: [Ratio; 2],
+}
+
+fn ratios(times: &[Times]) -> [Ratio; 2] {
+    let [library, arrays, vectors, _, row] = times else { unreachable!() };
+    let less = library.less(row.best());
+    [arrays, vectors].map(|version| Ratio { whole: library.median_over(version), less: less.median_over(version) })
+}
+
+/// The larger of the ratios of packing and unpacking, to each version; measured again with all rounds where the first few are near 1 or above.
+fn worst_ratios(case: &Case) -> [Ratio; 2] {
+    let mut buffers = Buffers::checked(case);
+    let mut measured = |rounds| {
+        let (pack, unpack) = (ratios(&buffers.pack_times(case, rounds)), ratios(&buffers.unpack_times(case, rounds)));
+        [pack[0].max(unpack[0]), pack[1].max(unpack[1])]
+    };
+    let first = measured(3);
+    if first.iter().all(|r| r.whole < 0.8) {
+        return first;
+    }
+    measured(ROUNDS)
+}
+
+/// The counts above 1 against one version, the most elements of a case above 1, and the worst cases.
+fn report_against(version: &str, k: usize, found: &mut [Found]) {
+    found.sort_by(|a, b| b.ratios[k].whole.total_cmp(&a.ratios[k].whole));
+    let above: Vec<&Found> = found.iter().filter(|f| f.ratios[k].whole > 1.0).collect();
+    let less = found.iter().filter(|f| f.ratios[k].less > 1.0).count();
+    let most = above.iter().map(|f| f.elements).max().map_or(String::new(), |n| format!(" (the largest has {n} elements)"));
+    println!("against {version}: {} above 1{most}, {less} without the reading of the row", above.len());
+    println!("median {:.3}; the worst:", found[found.len() / 2].ratios[k].whole);
+    for Found { name, ratios, .. } in found.iter().take(10) {
+        println!("  {:.3} ({:.3} without the row)  {name}", ratios[k].whole, ratios[k].less);
+    }
+}
+
+pub fn report(seed: u64, count: usize) {
+    let mut random = Random(seed);
+    let mut found: Vec<Found> = Vec::new();
+    for _ in 0..count {
+        let case = random.case();
+        let name = format!("{}, {} elements, {} cells", case.name(), case.count(), case.padded());
+        found.push(Found { name, elements: case.count(), ratios: worst_ratios(&case) });
+    }
+    println!("seed {seed}: {count} cases, {} with fewer than 32 elements", found.iter().filter(|f| f.elements < 32).count());
+    report_against("arrays", 0, &mut found);
+    report_against("vectors", 1, &mut found);
+}
