@@ -9,6 +9,7 @@ pub use lists::cell_found;
 pub use lists::element_offset;
 pub use lists::padded_cells;
 pub use physical::Physical;
+pub use physical::dims_into;
 pub use physical::offset_by;
 pub use physical::offset_in;
 pub use physical::physical_dims;

@@ -1,10 +1,9 @@
 // The physical shape and the physical index of a layout, tile by tile.
 use reciprocal::inner;
 ghost use mathlib.Core.Path.{_≡_};
-ghost use mathlib.Core.List.{List};
-ghost use Prim.Native.Nat.{_+_, _-_, _/_, _%_, _<_, _≤_};
-ghost use lib.ListN.{length, take, getD};
-ghost use Rattle.radix.specs.Radix.{prod, digits, rowMajor, Sizes, Bounded, In};
+ghost use Prim.Native.Nat.{_+_, _<_, _≤_};
+ghost use lib.ListN.{length, take};
+ghost use Rattle.radix.specs.Radix.{prod, Sizes, Bounded, In};
 ghost use Rattle.shape.specs.Shape.{maxRank};
 ghost use Rattle.tiling.specs.Tile.{tileDims, tileIndex, gather, reversed, indexOf, physical, offset, offsetAt};
 ghost use Rattle.tiling.specs.Tile.{maxTiles, maxEntry, maxPhysical, tilesFrom};
@@ -17,37 +16,20 @@ pub struct Physical {
     pub at: [u64; 24],
 }
 
-// Entry i of the shape ds tiled by ts.
-fn tiled_dim(ds: &[u64], ts: &[u64], i: usize) -> u64
-    requires { ⌜ (length (now ts) ≤ length (now ds)) × (i < length (now ds) + length (now ts)) ⌝ }
-    requires { ⌜ Sizes (now ds) ⌝ }
+// The shape in the first len places of at, tiled by ts in place: ceilings where the sizes stood, the entries after them.
+fn tile_dims(at: &mut [u64], len: usize, ts: &[u64])
+    requires { ⌜ (length (now ts) ≤ len) × (len + length (now ts) ≤ length (now at)) ⌝ }
+    requires { ⌜ Sizes (take len (now at)) ⌝ }
     requires { ⌜ Bounded maxEntry (now ts) ⌝ }
-    ensures { λ r. ⌜ r ≡ getD (tileDims (now (ts .entry)) (now (ds .entry))) i 0 ⌝ }
+    ensures { λ _. ⌜ take (len + length (now (ts .entry))) (now (at .exit)) ≡ tileDims (now (ts .entry)) (take len (now (at .entry))) ⌝ }
 {
-    let n = ds.len();
-    let k = n - ts.len();
-    if i < k {
-        return ds[i];
-    }
-    if i < n {
-        let t = ts[i - k];
-        return (ds[i] + (t - 1)) / t;
-    }
-    ts[i - n]
-}
-
-// The shape ds tiled by ts, at the front of out.
-fn tile_dims(ds: &[u64], ts: &[u64], out: &mut [u64])
-    requires { ⌜ (length (now ts) ≤ length (now ds)) × (length (now ds) + length (now ts) ≤ length (now out)) ⌝ }
-    requires { ⌜ Sizes (now ds) ⌝ }
-    requires { ⌜ Bounded maxEntry (now ts) ⌝ }
-    ensures { λ _. ⌜ take (length (now (ds .entry)) + length (now (ts .entry))) (now (out .exit)) ≡ tileDims (now (ts .entry)) (now (ds .entry)) ⌝ }
-{
-    let n = ds.len() + ts.len();
-    let mut i: usize = 0;
-    while i < n {
-        out[i] = tiled_dim(ds, ts, i);
-        i += 1;
+    let k = len - ts.len();
+    let mut j: usize = 0;
+    while j < ts.len() {
+        let t = ts[j];
+        at[k + j] = (at[k + j] + (t - 1)) / t;
+        at[len + j] = t;
+        j += 1;
     }
 }
 
@@ -95,7 +77,29 @@ fn gather_into(p: &[u64], xs: &[u64], out: &mut [u64])
     }
 }
 
-// The physical shape: the sizes in the order p, and each tile on that.
+// The physical shape, at the front of at, and its length: the sizes in the order p, and each tile on that.
+pub fn dims_into(sizes: &[u64], p: &[u64], lens: &[usize], flat: &[u64], at: &mut [u64]) -> usize
+    requires { ⌜ (length (now p) ≤ maxRank) × (length (now lens) ≤ maxTiles) × (length (now at) ≡ maxPhysical) ⌝ }
+    requires { ⌜ Under (length (now sizes)) (now p) ⌝ }
+    requires { ⌜ Sizes (now sizes) ⌝ }
+    requires { ⌜ Levels (now lens) (now flat) (length (now p)) ⌝ }
+    ensures { λ r. ⌜ (r ≤ maxPhysical) × (take r (now (at .exit)) ≡ physical (now (sizes .entry)) (now (p .entry)) (tilesFrom (now (lens .entry)) (now (flat .entry)))) ⌝ }
+{
+    gather_into(p, sizes, at);
+    let mut len = p.len();
+    let mut l: usize = 0;
+    while l < lens.len() {
+        let n = lens[l];
+        let a = 6 * l;
+        let e = a + n;
+        tile_dims(at, len, &flat[a..e]);
+        len += n;
+        l += 1;
+    }
+    len
+}
+
+// The physical shape.
 pub fn physical_dims(sizes: &[u64], p: &[u64], lens: &[usize], flat: &[u64]) -> Physical
     requires { ⌜ (length (now p) ≤ maxRank) × (length (now lens) ≤ maxTiles) ⌝ }
     requires { ⌜ Under (length (now sizes)) (now p) ⌝ }
@@ -104,18 +108,7 @@ pub fn physical_dims(sizes: &[u64], p: &[u64], lens: &[usize], flat: &[u64]) -> 
     ensures { λ r. ⌜ IsPhysical r (physical (now (sizes .entry)) (now (p .entry)) (tilesFrom (now (lens .entry)) (now (flat .entry)))) ⌝ }
 {
     let mut at = [0u64; 24];
-    gather_into(p, sizes, &mut at);
-    let mut len = p.len();
-    let mut l: usize = 0;
-    while l < lens.len() {
-        let m = lens[l];
-        let a = 6 * l;
-        let e = a + m;
-        let old = at;
-        tile_dims(&old[..len], &flat[a..e], &mut at);
-        len += m;
-        l += 1;
-    }
+    let len = dims_into(sizes, p, lens, flat, &mut at);
     Physical { len, at }
 }
 
