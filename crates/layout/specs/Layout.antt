@@ -14,6 +14,10 @@ use Rattle.tiling.specs.Tile.{maxTiles, maxEntries, maxEntry, tilesFrom, revers
 use Rattle.tiling.specs.Cell.{Cell, cell}
 use Rattle.layout.specs.declared.Layout.{Layout}
 
+-- the layout of these parts
+abbrev pub layoutFrom : ℕ → List ℕ → ℕ → List ℕ → List ℕ → Layout
+layoutFrom rank order tiles lens tile = record { rank = rank; «minor_to_major» = order; tiles = tiles; «tile_len» = lens; tile = tile }
+
 -- the lists of a record, up to its counts
 abbrev pub minorToMajor : Layout → List ℕ
 minorToMajor l = take (l .rank) (l .«minor_to_major»)

@@ -1,3 +1,4 @@
 pub mod Layout
+pub mod Measured
 pub mod Share
 pub mod Answers

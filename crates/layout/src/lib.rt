@@ -1,6 +1,7 @@
 // Tiled layouts: padded size, offsets, what a cell holds, the layout card and the fit verdict.
 pub mod inner;
 mod judge;
+pub mod parts;
 mod share;
 
 pub use judge::good_layout;

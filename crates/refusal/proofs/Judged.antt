@@ -17,6 +17,10 @@ pub rest : (b : Bool) (r : Refusal) (v : Verdict) → unless b r v ≡ Done → 
 rest true r v e = e
 rest false r v e = let z : _≡_ {A = ℕ} 0 1 = cc in absurd (omega arith)
 
+-- a verdict that is a refusal is not done
+pub never-done : {A : Type 0} (v : Verdict) (r : Refusal) → v ≡ Refused r → v ≡ Done → A
+never-done v r e f = let z : _≡_ {A = ℕ} 0 1 = cc in absurd (omega arith)
+
 -- rules judged after others
 pub after-done : (xs ys : List Rule) → judge xs ≡ Done → judge (xs ++ ys) ≡ judge ys
 after-done [] ys e = refl
