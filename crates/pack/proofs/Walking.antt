@@ -12,10 +12,11 @@ use lib.Seq.{getD-set-same, getD-set-other}
 use borrow.Author.Tests.{lt-ltb, le-ltb, ltb-true, ltb-false, eqb-true, eqb-false}
 use Rattle.radix.specs.Radix.{prod}
 use Rattle.radix.proofs.Lists.{rest-of}
+use Rattle.radix.proofs.Radix.{length-tab, getD-tab}
 use Rattle.tiling.specs.Tile.{offset, padded}
 use Rattle.tiling.specs.Cell.{cell, Cell, holds, padding}
 use Rattle.tiling.proofs.OwnCells.{Valid, offset-below, cell-offset, cell-holds}
-use Rattle.pack.specs.Rows.{put, putAt, Stored, Loaded, walked, scattered, gathered}
+use Rattle.pack.specs.Rows.{put, putAt, Stored, Loaded, walked, scattered, gathered, Reaches, offsetsFrom}
 
 -- one place of the table more
 pub walk-next : (step : ℕ → ℕ → List ℕ → List ℕ) (base : ℕ) (table : List ℕ) (a j : ℕ) (xs : List ℕ) → j < length table
@@ -57,6 +58,25 @@ put-more source n (holds e) v h = go (ltb e n) refl
         let l : n + 1 ≤ e = ⊎-elim (λ (q : n ≡ e). absurd (h (ap holds (sym q)))) (λ q. omega (arith, q)) (eq-or-lt-of-le (ltb-false e n t)) in
         rw (t, le-ltb e (n + 1) l)
 
+-- a table of the first n offsets has n entries, counted from 0
+pub offsets-long : (sizes p : List ℕ) (tss : List (List ℕ)) (n : ℕ) → length (offsetsFrom sizes p tss n) ≡ n
+offsets-long sizes p tss n = length-tab (offset sizes p tss) n
+
+offsets-at : (sizes p : List ℕ) (tss : List (List ℕ)) (n j : ℕ) → j < length (offsetsFrom sizes p tss n) → 0 + getD (offsetsFrom sizes p tss n) j 0 ≡ offset sizes p tss (0 + j)
+offsets-at sizes p tss n j h =
+    let l : j < n = omega (arith, offsets-long sizes p tss n) in
+    let z : 0 + j ≡ j = omega arith in
+    let e = getD-tab (offset sizes p tss) n j 0 l in
+    ap (λ (x : ℕ). 0 + x) (e ∙ ap (offset sizes p tss) (sym z)) ∙ none (offset sizes p tss (0 + j))
+  where
+    none : (x : ℕ) → 0 + x ≡ x
+    none x = omega arith
+
+-- and its cells are below the padded size
+pub offsets-reach : (sizes p : List ℕ) (tss : List (List ℕ)) → Valid sizes p tss → (n m : ℕ) → n ≤ prod sizes → padded sizes p tss ≤ m → Reaches 0 (offsetsFrom sizes p tss n) m
+offsets-reach sizes p tss v n m h room j l =
+    omega (arith, offsets-at sizes p tss n j l, offset-below sizes p tss v (0 + j) (omega (arith, offsets-long sizes p tss n)))
+
 module _ (sizes p : List ℕ) (tss : List (List ℕ)) (source before : List ℕ) where
   pub store-none : Stored sizes p tss source 0 before before
   unfolding putAt
@@ -97,6 +117,23 @@ module _ (sizes p : List ℕ) (tss : List (List ℕ)) (source before : List ℕ)
         subst (λ (x : ℕ). Stored sizes p tss source (a + j + 1) before (set ys x (getD source (a + j) 0))) (sym (same j l)) (store-next v (a + j) n ys o (q .1)),
       ))
 
+  -- all elements are stored along a table of all offsets
+  pub store-all : Valid sizes p tss → padded sizes p tss ≤ length before → Stored sizes p tss source (prod sizes) before (scattered source 0 (offsetsFrom sizes p tss (prod sizes)) 0 before)
+  store-all v room =
+      let n = prod sizes in
+      let table = offsetsFrom sizes p tss n in
+      let e : 0 + length table ≡ n = omega (arith, offsets-long sizes p tss n) in
+      subst (λ (x : ℕ). Stored sizes p tss source x before (scattered source 0 table 0 before)) e
+      (store-row v 0 table 0 before (omega arith) room (offsets-at sizes p tss n) (refl, store-none) .1)
+
+  -- the only element is stored into cell 0
+  pub store-one : Valid sizes p tss → padded sizes p tss ≤ length before → prod sizes ≡ 1 → offset sizes p tss 0 ≡ 0 → Stored sizes p tss source (prod sizes) before (set before 0 (getD source 0 0))
+  store-one v room one first =
+      let h : 0 < prod sizes = omega arith in
+      let e : 0 + 1 ≡ prod sizes = omega arith in
+      subst (λ (o : ℕ). Stored sizes p tss source (prod sizes) before (set before o (getD source 0 0))) first
+      (subst (λ (n : ℕ). Stored sizes p tss source n before (set before (offset sizes p tss 0) (getD source 0 0))) e (store-next v 0 h before (omega (arith, offset-below sizes p tss v 0 h)) store-none))
+
 -- loading, the same
 module _ (sizes p : List ℕ) (tss : List (List ℕ)) (cells before : List ℕ) where
   pub load-none : Loaded sizes p tss cells 0 before before
@@ -131,3 +168,17 @@ module _ (sizes p : List ℕ) (tss : List (List ℕ)) (cells before : List ℕ) 
         length-set ys (a + j) (getD cells (base + getD table j 0) 0) ∙ q .0,
         subst (λ (x : ℕ). Loaded sizes p tss cells (a + j + 1) before (set ys (a + j) (getD cells x 0))) (sym (same j l)) (load-next (a + j) ys (omega (arith, q .0)) (q .1)),
       ))
+
+  pub load-all : prod sizes ≤ length before → Loaded sizes p tss cells (prod sizes) before (gathered cells 0 (offsetsFrom sizes p tss (prod sizes)) 0 before)
+  load-all room =
+      let n = prod sizes in
+      let table = offsetsFrom sizes p tss n in
+      let e : 0 + length table ≡ n = omega (arith, offsets-long sizes p tss n) in
+      subst (λ (x : ℕ). Loaded sizes p tss cells x before (gathered cells 0 table 0 before)) e
+      (load-row 0 table 0 before (omega arith) (offsets-at sizes p tss n) (refl, load-none) .1)
+
+  pub load-one : prod sizes ≤ length before → prod sizes ≡ 1 → offset sizes p tss 0 ≡ 0 → Loaded sizes p tss cells (prod sizes) before (set before 0 (getD cells 0 0))
+  load-one room one first =
+      let e : 0 + 1 ≡ prod sizes = omega arith in
+      subst (λ (o : ℕ). Loaded sizes p tss cells (prod sizes) before (set before 0 (getD cells o 0))) first
+      (subst (λ (n : ℕ). Loaded sizes p tss cells n before (set before 0 (getD cells (offset sizes p tss 0) 0))) e (load-next 0 before (omega arith) load-none))

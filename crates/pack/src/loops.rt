@@ -10,6 +10,9 @@ ghost use Rattle.tiling.specs.Ready.{Ready};
 ghost use Rattle.pack.specs.Pack.{packed, unpacked};
 ghost use Rattle.pack.specs.Rows.{Stored, Loaded, startOf};
 
+// Fewer elements than this go along a table of all their offsets.
+const FEW: u64 = 24;
+
 // From so many elements on the long table and the multipliers are worth their making.
 const MANY: u64 = 4096;
 
@@ -147,51 +150,156 @@ fn unpack_many(
     );
 }
 
-// Every element to its cell, 0 in padding; cells past the padded size stay.
+// Packs along a table of the offsets of all elements.
+fn pack_by_table(
+    sizes: &[u64],
+    p: &[u64],
+    lens: &[usize],
+    flat: &[u64],
+    dims: &[u64],
+    count: u64,
+    source: &[u32],
+    cells: &mut [u32],
+)
+    requires { ⌜ Ready (now sizes) (now p) (now lens) (now flat) ⌝ }
+    requires { ⌜ now dims ≡ physical (now sizes) (now p) (tilesFrom (now lens) (now flat)) ⌝ }
+    requires { ⌜ (count ≡ prod (now sizes)) × (count ≤ 24) ⌝ }
+    requires { ⌜ (prod (now sizes) ≤ length (now source)) × (padded (now sizes) (now p) (tilesFrom (now lens) (now flat)) ≤ length (now cells)) ⌝ }
+    ensures { λ _. ⌜ Stored (now (sizes .entry)) (now (p .entry)) (tilesFrom (now (lens .entry)) (now (flat .entry))) (now (source .entry)) (prod (now (sizes .entry))) (now (cells .entry)) (now (cells .exit)) ⌝ }
+{
+    let mut table = [0u64; 24];
+    let none = [0u64; 1];
+    let n = count as usize;
+    rows::offsets_into(sizes, p, lens, flat, dims, n, &mut table, &none[..0]);
+    rows::scatter(source, 0, &table[..n], 0, cells);
+}
+
+// Unpacks along a table of the offsets of all elements.
+fn unpack_by_table(
+    sizes: &[u64],
+    p: &[u64],
+    lens: &[usize],
+    flat: &[u64],
+    dims: &[u64],
+    count: u64,
+    cells: &[u32],
+    destination: &mut [u32],
+)
+    requires { ⌜ Ready (now sizes) (now p) (now lens) (now flat) ⌝ }
+    requires { ⌜ now dims ≡ physical (now sizes) (now p) (tilesFrom (now lens) (now flat)) ⌝ }
+    requires { ⌜ (count ≡ prod (now sizes)) × (count ≤ 24) ⌝ }
+    requires { ⌜ (prod (now sizes) ≤ length (now destination)) × (padded (now sizes) (now p) (tilesFrom (now lens) (now flat)) ≤ length (now cells)) ⌝ }
+    ensures { λ _. ⌜ Loaded (now (sizes .entry)) (now (p .entry)) (tilesFrom (now (lens .entry)) (now (flat .entry))) (now (cells .entry)) (prod (now (sizes .entry))) (now (destination .entry)) (now (destination .exit)) ⌝ }
+{
+    let mut table = [0u64; 24];
+    let none = [0u64; 1];
+    let n = count as usize;
+    rows::offsets_into(sizes, p, lens, flat, dims, n, &mut table, &none[..0]);
+    rows::gather(cells, &table[..n], 0, 0, destination);
+}
+
+// Every element to its cell: the only one to cell 0, few along a table of all their offsets, more of them in rows.
+fn store_elements(
+    sizes: &[u64],
+    p: &[u64],
+    lens: &[usize],
+    flat: &[u64],
+    dims: &[u64],
+    count: u64,
+    source: &[u32],
+    cells: &mut [u32],
+)
+    requires { ⌜ Ready (now sizes) (now p) (now lens) (now flat) ⌝ }
+    requires { ⌜ now dims ≡ physical (now sizes) (now p) (tilesFrom (now lens) (now flat)) ⌝ }
+    requires { ⌜ count ≡ prod (now sizes) ⌝ }
+    requires { ⌜ (prod (now sizes) ≤ length (now source)) × (padded (now sizes) (now p) (tilesFrom (now lens) (now flat)) ≤ length (now cells)) ⌝ }
+    ensures { λ _. ⌜ Stored (now (sizes .entry)) (now (p .entry)) (tilesFrom (now (lens .entry)) (now (flat .entry))) (now (source .entry)) (prod (now (sizes .entry))) (now (cells .entry)) (now (cells .exit)) ⌝ }
+{
+    if count == 1 {
+        cells[0] = source[0];
+        return;
+    }
+    if count < FEW {
+        pack_by_table(sizes, p, lens, flat, dims, count, source, cells);
+        return;
+    }
+    if count < MANY {
+        pack_few(sizes, p, lens, flat, dims, source, cells);
+    } else {
+        pack_many(sizes, p, lens, flat, dims, source, cells);
+    }
+}
+
+// Every element from its cell, the same.
+fn load_elements(
+    sizes: &[u64],
+    p: &[u64],
+    lens: &[usize],
+    flat: &[u64],
+    dims: &[u64],
+    count: u64,
+    cells: &[u32],
+    destination: &mut [u32],
+)
+    requires { ⌜ Ready (now sizes) (now p) (now lens) (now flat) ⌝ }
+    requires { ⌜ now dims ≡ physical (now sizes) (now p) (tilesFrom (now lens) (now flat)) ⌝ }
+    requires { ⌜ count ≡ prod (now sizes) ⌝ }
+    requires { ⌜ (prod (now sizes) ≤ length (now destination)) × (padded (now sizes) (now p) (tilesFrom (now lens) (now flat)) ≤ length (now cells)) ⌝ }
+    ensures { λ _. ⌜ Loaded (now (sizes .entry)) (now (p .entry)) (tilesFrom (now (lens .entry)) (now (flat .entry))) (now (cells .entry)) (prod (now (sizes .entry))) (now (destination .entry)) (now (destination .exit)) ⌝ }
+{
+    if count == 1 {
+        destination[0] = cells[0];
+        return;
+    }
+    if count < FEW {
+        unpack_by_table(sizes, p, lens, flat, dims, count, cells, destination);
+        return;
+    }
+    if count < MANY {
+        unpack_few(sizes, p, lens, flat, dims, cells, destination);
+    } else {
+        unpack_many(sizes, p, lens, flat, dims, cells, destination);
+    }
+}
+
+// Every element to its cell, 0 in padding; cells past the padded size stay. dims is the physical shape, count the element count, size the padded size.
 pub fn pack_in(
     sizes: &[u64],
     p: &[u64],
     lens: &[usize],
     flat: &[u64],
+    dims: &[u64],
+    count: u64,
+    size: u64,
     source: &[u32],
     cells: &mut [u32],
 )
     requires { ⌜ Ready (now sizes) (now p) (now lens) (now flat) ⌝ }
+    requires { ⌜ now dims ≡ physical (now sizes) (now p) (tilesFrom (now lens) (now flat)) ⌝ }
+    requires { ⌜ (count ≡ prod (now sizes)) × (size ≡ padded (now sizes) (now p) (tilesFrom (now lens) (now flat))) ⌝ }
     requires { ⌜ (prod (now sizes) ≤ length (now source)) × (padded (now sizes) (now p) (tilesFrom (now lens) (now flat)) ≤ length (now cells)) ⌝ }
     ensures { λ _. ⌜ now (cells .exit) ≡ packed (now (sizes .entry)) (now (p .entry)) (tilesFrom (now (lens .entry)) (now (flat .entry))) (now (source .entry)) (now (cells .entry)) ⌝ }
 {
-    let d = tiling::physical_dims(sizes, p, lens, flat);
-    let at = d.at;
-    let len = d.len;
-    let size = radix::product(&at[..len]);
-    let count = radix::product(sizes);
     clear_padding(cells, count, size);
-    if count < MANY {
-        pack_few(sizes, p, lens, flat, &at[..len], source, cells);
-    } else {
-        pack_many(sizes, p, lens, flat, &at[..len], source, cells);
-    }
+    store_elements(sizes, p, lens, flat, dims, count, source, cells);
 }
 
-// Every element from its cell; places past the element count stay.
+// Every element from its cell; places past the element count stay. dims is the physical shape, count the element count.
 pub fn unpack_in(
     sizes: &[u64],
     p: &[u64],
     lens: &[usize],
     flat: &[u64],
+    dims: &[u64],
+    count: u64,
     cells: &[u32],
     destination: &mut [u32],
 )
     requires { ⌜ Ready (now sizes) (now p) (now lens) (now flat) ⌝ }
+    requires { ⌜ now dims ≡ physical (now sizes) (now p) (tilesFrom (now lens) (now flat)) ⌝ }
+    requires { ⌜ count ≡ prod (now sizes) ⌝ }
     requires { ⌜ (prod (now sizes) ≤ length (now destination)) × (padded (now sizes) (now p) (tilesFrom (now lens) (now flat)) ≤ length (now cells)) ⌝ }
     ensures { λ _. ⌜ now (destination .exit) ≡ unpacked (now (sizes .entry)) (now (p .entry)) (tilesFrom (now (lens .entry)) (now (flat .entry))) (now (cells .entry)) (now (destination .entry)) ⌝ }
 {
-    let d = tiling::physical_dims(sizes, p, lens, flat);
-    let at = d.at;
-    let len = d.len;
-    if radix::product(sizes) < MANY {
-        unpack_few(sizes, p, lens, flat, &at[..len], cells, destination);
-    } else {
-        unpack_many(sizes, p, lens, flat, &at[..len], cells, destination);
-    }
+    load_elements(sizes, p, lens, flat, dims, count, cells, destination);
 }

@@ -12,7 +12,7 @@ ghost use Rattle.tiling.specs.Ready.{Ready};
 ghost use Rattle.pack.specs.Rows.{Stored, Loaded, scattered, gathered, Reaches, IsCut, IsRow, offsetsFrom};
 
 // The offsets of the first n elements, at the front of the table.
-fn offsets_into(
+pub fn offsets_into(
     sizes: &[u64],
     p: &[u64],
     lens: &[usize],
@@ -64,7 +64,7 @@ fn row_steps(
 }
 
 // The values from place a on to the cells that the table names, counted from base.
-fn scatter(source: &[u32], a: usize, table: &[u64], base: u64, cells: &mut [u32])
+pub fn scatter(source: &[u32], a: usize, table: &[u64], base: u64, cells: &mut [u32])
     requires { ⌜ (a + length (now table) ≤ length (now source)) × Reaches base (now table) (length (now cells)) ⌝ }
     ensures { λ _. ⌜ now (cells .exit) ≡ scattered (now (source .entry)) base (now (table .entry)) a (now (cells .entry)) ⌝ }
 {
@@ -77,7 +77,7 @@ fn scatter(source: &[u32], a: usize, table: &[u64], base: u64, cells: &mut [u32]
 }
 
 // The cells that the table names, counted from base, to the places from a on.
-fn gather(cells: &[u32], table: &[u64], base: u64, a: usize, destination: &mut [u32])
+pub fn gather(cells: &[u32], table: &[u64], base: u64, a: usize, destination: &mut [u32])
     requires { ⌜ (a + length (now table) ≤ length (now destination)) × Reaches base (now table) (length (now cells)) ⌝ }
     ensures { λ _. ⌜ now (destination .exit) ≡ gathered (now (cells .entry)) base (now (table .entry)) a (now (destination .entry)) ⌝ }
 {
