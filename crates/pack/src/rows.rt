@@ -11,7 +11,7 @@ ghost use Rattle.tiling.specs.Tile.{tilesFrom, padded, offset, physical};
 ghost use Rattle.tiling.specs.Ready.{Ready};
 ghost use Rattle.pack.specs.Rows.{Stored, Loaded, scattered, gathered, Reaches, IsCut, IsRow, offsetsFrom};
 
-// The offsets of the first n elements, at the front of the table.
+// The offsets of the first n elements, at the front of the table: the point moves on from element to element.
 pub fn offsets_into(
     sizes: &[u64],
     p: &[u64],
@@ -28,9 +28,13 @@ pub fn offsets_into(
     requires { ⌜ (n ≤ prod (now sizes)) × (n ≤ length (now table)) ⌝ }
     ensures { λ _. ⌜ take n (now (table .exit)) ≡ offsetsFrom (now (sizes .entry)) (now (p .entry)) (tilesFrom (now (lens .entry)) (now (flat .entry))) n ⌝ }
 {
+    let mut point = [0u64; 6];
+    let mut at = [0u64; 24];
+    let rank = sizes.len();
     let mut j: usize = 0;
     while j < n {
-        table[j] = tiling::offset_by(sizes, p, lens, flat, dims, j as u64, m);
+        table[j] = tiling::placed(sizes, p, lens, flat, dims, &point[..rank], &mut at, m);
+        radix::advance(sizes, &mut point);
         j += 1;
     }
 }
