@@ -1,10 +1,11 @@
 // Packing a table into the cells of a layout and back, and storing and loading one element, over lent buffers.
 mod cut;
-mod inner;
 mod loops;
 mod rows;
 
 use layout::Layout;
+use layout::parts;
+use layout::parts::Measured;
 use refusal::Refusal;
 use refusal::Verdict;
 use shape::Element;
@@ -13,7 +14,7 @@ ghost use mathlib.Core.Path.{_≡_};
 ghost use lib.ListN.{length};
 ghost use Rattle.refusal.specs.Judge.{judge};
 ghost use Rattle.refusal.specs.Number.{verdictAnswer};
-ghost use Rattle.pack.specs.Answers.{bufferRules, storeRules, packAnswer, packCells, unpackAnswer, unpackPlaces, storeAnswer, storeCells, loadedAnswer, loadValue};
+ghost use Rattle.pack.specs.Answers.{withBuffers, storeRules, packAnswer, packCells, unpackAnswer, unpackPlaces, storeAnswer, storeCells, loadedAnswer, loadValue};
 
 // The answer of load.
 pub enum Loaded {
@@ -21,16 +22,17 @@ pub enum Loaded {
     Refused(Refusal),
 }
 
-// The rules of a pack or unpack: 1, 3, 4, then 9 for the places lent for elements and for cells.
-fn judge_buffers(shape: Shape, layout: Layout, elements: usize, cells: usize) -> Verdict
-    ensures { λ r. ⌜ r ≡ judge (bufferRules shape layout elements cells) ⌝ }
+// The rules of a pack or unpack: the measured shape and layout, 1, 3, 4, then 9 for the places lent for elements and for cells.
+fn judge_buffers(g: Measured, elements: usize, cells: usize) -> Verdict
+    ensures { λ r. ⌜ r ≡ withBuffers (g .verdict) (g .extent .count) (g .extent .padded) elements cells ⌝ }
 {
-    match layout::judge_layout(shape, layout) {
+    let verdict = g.verdict;
+    match verdict {
         Verdict::Done => {
-            if (elements as u64) < shape::inner::count_of(shape) {
+            if (elements as u64) < g.extent.count {
                 return Verdict::Refused(Refusal::ShortBuffer);
             }
-            if (cells as u64) < layout::inner::padded_cells(shape, layout) {
+            if (cells as u64) < g.extent.padded {
                 return Verdict::Refused(Refusal::ShortBuffer);
             }
             Verdict::Done
@@ -61,9 +63,39 @@ fn judge_element(shape: Shape, layout: Layout, n: u64, cells: usize) -> Verdict
 pub fn pack(shape: Shape, layout: Layout, source: &[u32], cells: &mut [u32]) -> Verdict
     ensures { λ r. ⌜ (verdictAnswer r ≡ packAnswer shape layout (now (source .entry)) (now (cells .entry))) × (now (cells .exit) ≡ packCells shape layout (now (source .entry)) (now (cells .entry))) ⌝ }
 {
-    match judge_buffers(shape, layout, source.len(), cells.len()) {
+    let tiles = layout.tiles;
+    let m = layout.minor_to_major;
+    let lens = layout.tile_len;
+    let flat = layout.tile;
+    let mut order = [0u64; 6];
+    let mut dims = [0u64; 24];
+    let g = parts::measure(
+        shape,
+        layout.rank,
+        &m,
+        tiles,
+        &lens,
+        &flat,
+        &mut order,
+        &mut dims,
+    );
+    let x = g.extent;
+    match judge_buffers(g, source.len(), cells.len()) {
         Verdict::Done => {
-            inner::pack_all(shape, layout, source, cells);
+            let rank = shape.rank;
+            let sizes = shape.sizes;
+            let len = x.len;
+            loops::pack_in(
+                &sizes[..rank],
+                &order[..rank],
+                &lens[..tiles],
+                &flat,
+                &dims[..len],
+                x.count,
+                x.padded,
+                source,
+                cells,
+            );
             Verdict::Done
         }
         Verdict::Refused(r) => Verdict::Refused(r),
@@ -74,9 +106,38 @@ pub fn pack(shape: Shape, layout: Layout, source: &[u32], cells: &mut [u32]) -> 
 pub fn unpack(shape: Shape, layout: Layout, cells: &[u32], destination: &mut [u32]) -> Verdict
     ensures { λ r. ⌜ (verdictAnswer r ≡ unpackAnswer shape layout (now (cells .entry)) (now (destination .entry))) × (now (destination .exit) ≡ unpackPlaces shape layout (now (cells .entry)) (now (destination .entry))) ⌝ }
 {
-    match judge_buffers(shape, layout, destination.len(), cells.len()) {
+    let tiles = layout.tiles;
+    let m = layout.minor_to_major;
+    let lens = layout.tile_len;
+    let flat = layout.tile;
+    let mut order = [0u64; 6];
+    let mut dims = [0u64; 24];
+    let g = parts::measure(
+        shape,
+        layout.rank,
+        &m,
+        tiles,
+        &lens,
+        &flat,
+        &mut order,
+        &mut dims,
+    );
+    let x = g.extent;
+    match judge_buffers(g, destination.len(), cells.len()) {
         Verdict::Done => {
-            inner::unpack_all(shape, layout, cells, destination);
+            let rank = shape.rank;
+            let sizes = shape.sizes;
+            let len = x.len;
+            loops::unpack_in(
+                &sizes[..rank],
+                &order[..rank],
+                &lens[..tiles],
+                &flat,
+                &dims[..len],
+                x.count,
+                cells,
+                destination,
+            );
             Verdict::Done
         }
         Verdict::Refused(r) => Verdict::Refused(r),
