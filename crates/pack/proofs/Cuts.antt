@@ -52,7 +52,6 @@ cut-is sizes p q e s k i span steps wide l at is so some few =
       span = subst (λ (x : ℕ). 0 < x) (sym is) (rest-pos sizes (k + 1) s);
       count = rw (so, is) (prod-split (k + 1) sizes);
       room = omega (arith, t, prod-rest k sizes (omega arith) s);
-      one = λ z. absurd (omega arith);
       inside = λ _. (l, omega (arith, at, o), ap (λ (n : ℕ). getD p n 0) at ∙ place-at k p o);
       same = λ _. (refl, r);
     }
@@ -65,7 +64,7 @@ prod-none (d ∷ ds) e = absurd (omega arith)
 pub cut-none : (sizes p : List ℕ) → length sizes ≡ 0 → IsCut (record { dimension = 0; place = 0; size = 1; span = 1; steps = 1; wide = 1 }) sizes p
 cut-none sizes p e =
     let o = prod-none sizes e in
-    record { wide = omega arith; narrow = omega arith; span = omega arith; count = sym o; room = omega (arith, o); one = λ _. refl; inside = λ h. absurd (omega arith); same = λ h. absurd (omega arith) }
+    record { wide = omega arith; narrow = omega arith; span = omega arith; count = sym o; room = omega (arith, o); inside = λ h. absurd (omega arith); same = λ h. absurd (omega arith) }
 
 module _ (sizes p : List ℕ) (tss : List (List ℕ)) (v : Valid sizes p tss) (small : Sizes sizes) (g : Cut) (i : IsCut g sizes p) where
   -- a step begins at an element

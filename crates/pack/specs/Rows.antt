@@ -57,7 +57,6 @@ pub record IsCut (g : Cut) (sizes p : List ℕ) : Type 0 where
   pub span : 0 < g .span
   pub count : g .steps * g .span ≡ prod sizes
   pub room : g .size * g .span ≤ prod sizes
-  pub one : length sizes ≡ 0 → g .steps ≡ 1
   pub inside : 0 < length sizes → (g .dimension < length sizes) × (g .place < length p) × (getD p (g .place) 0 ≡ g .dimension)
   pub same : 0 < length sizes → (g .size ≡ getD sizes (g .dimension) 0) × (g .span ≡ prod (drop (suc (g .dimension)) sizes))
 
