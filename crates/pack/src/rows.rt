@@ -5,9 +5,9 @@ use cut::Cut;
 ghost use mathlib.Core.Path.{_≡_};
 ghost use Prim.Native.Nat.{_+_, _*_, _<_, _≤_};
 ghost use lib.ListN.{length, take};
-ghost use Rattle.radix.specs.Radix.{prod, tab};
+ghost use Rattle.radix.specs.Radix.{prod};
 ghost use Rattle.reciprocal.specs.Multiplier.{AreMultipliers};
-ghost use Rattle.tiling.specs.Tile.{tilesFrom, padded, offset, physical};
+ghost use Rattle.tiling.specs.Tile.{tilesFrom, padded, physical};
 ghost use Rattle.tiling.specs.Ready.{Ready};
 ghost use Rattle.pack.specs.Rows.{Stored, Loaded, scattered, gathered, Reaches, IsCut, IsRow, offsetsFrom};
 

@@ -7,7 +7,7 @@ use native.Mathlib.Omega.{arith}
 use denote.Ref.{now}
 use lib.ListN.{length}
 use Rattle.radix.specs.Radix.{prod}
-use Rattle.tiling.specs.Tile.{tilesFrom, offset}
+use Rattle.tiling.specs.Tile.{tilesFrom}
 use Rattle.tiling.proofs.OwnCells.{Valid, offset-below}
 use Rattle.tiling.proofs.Rows.{offset-first}
 use Rattle.tiling.proofs.Shaped.{shaped-valid}
