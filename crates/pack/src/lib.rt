@@ -63,22 +63,14 @@ fn judge_element(shape: Shape, layout: Layout, n: u64, cells: usize) -> Verdict
 pub fn pack(shape: Shape, layout: Layout, source: &[u32], cells: &mut [u32]) -> Verdict
     ensures { λ r. ⌜ (verdictAnswer r ≡ packAnswer shape layout (now (source .entry)) (now (cells .entry))) × (now (cells .exit) ≡ packCells shape layout (now (source .entry)) (now (cells .entry))) ⌝ }
 {
+    let n = layout.rank;
     let tiles = layout.tiles;
     let m = layout.minor_to_major;
     let lens = layout.tile_len;
     let flat = layout.tile;
-    let mut order = [0u64; 6];
+    let mut p = [0u64; 6];
     let mut dims = [0u64; 24];
-    let g = parts::measure(
-        shape,
-        layout.rank,
-        &m,
-        tiles,
-        &lens,
-        &flat,
-        &mut order,
-        &mut dims,
-    );
+    let g = parts::measure(shape, n, &m, tiles, &lens, &flat, &mut p, &mut dims);
     let x = g.extent;
     match judge_buffers(g, source.len(), cells.len()) {
         Verdict::Done => {
@@ -87,7 +79,7 @@ pub fn pack(shape: Shape, layout: Layout, source: &[u32], cells: &mut [u32]) -> 
             let len = x.len;
             loops::pack_in(
                 &sizes[..rank],
-                &order[..rank],
+                &p[..rank],
                 &lens[..tiles],
                 &flat,
                 &dims[..len],
@@ -106,22 +98,14 @@ pub fn pack(shape: Shape, layout: Layout, source: &[u32], cells: &mut [u32]) -> 
 pub fn unpack(shape: Shape, layout: Layout, cells: &[u32], destination: &mut [u32]) -> Verdict
     ensures { λ r. ⌜ (verdictAnswer r ≡ unpackAnswer shape layout (now (cells .entry)) (now (destination .entry))) × (now (destination .exit) ≡ unpackPlaces shape layout (now (cells .entry)) (now (destination .entry))) ⌝ }
 {
+    let n = layout.rank;
     let tiles = layout.tiles;
     let m = layout.minor_to_major;
     let lens = layout.tile_len;
     let flat = layout.tile;
-    let mut order = [0u64; 6];
+    let mut p = [0u64; 6];
     let mut dims = [0u64; 24];
-    let g = parts::measure(
-        shape,
-        layout.rank,
-        &m,
-        tiles,
-        &lens,
-        &flat,
-        &mut order,
-        &mut dims,
-    );
+    let g = parts::measure(shape, n, &m, tiles, &lens, &flat, &mut p, &mut dims);
     let x = g.extent;
     match judge_buffers(g, destination.len(), cells.len()) {
         Verdict::Done => {
@@ -130,7 +114,7 @@ pub fn unpack(shape: Shape, layout: Layout, cells: &[u32], destination: &mut [u3
             let len = x.len;
             loops::unpack_in(
                 &sizes[..rank],
-                &order[..rank],
+                &p[..rank],
                 &lens[..tiles],
                 &flat,
                 &dims[..len],
