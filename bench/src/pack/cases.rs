@@ -51,7 +51,7 @@ const M: u64 = 1 << 20;
 /// Sizes, minor_to_major (empty for row-major), tiles, and whether the case is a main one.
 type Entry = (&'static [u64], &'static [usize], &'static [&'static [u64]], bool);
 
-const CASES: [Entry; 48] = [
+const CASES: [Entry; 54] = [
     (&[4096, 1024], &[], &[&[8, 128]], true),
     (&[4096, 1024], &[], &[&[8, 128], &[2, 1]], true),
     (&[4096, 1024], &[0, 1], &[&[8, 128]], true),
@@ -86,10 +86,16 @@ const CASES: [Entry; 48] = [
     (&[], &[], &[], true),
     (&[1], &[], &[], true),
     (&[1], &[], &[&[1]], false),
+    (&[1, 1, 1, 1, 1, 1], &[2, 4, 1, 5, 3, 0], &[], true),
     (&[2, 3], &[], &[], false),
     (&[2, 3], &[], &[&[2]], true),
     (&[8, 8], &[], &[&[8, 8]], true),
-    (&[16], &[], &[&[4]], false),
+    (&[16], &[], &[&[4]], true),
+    (&[24], &[], &[], true),
+    (&[1, 8, 1, 1], &[0, 1, 3, 2], &[&[1, 55, 1]], true),
+    (&[1, 7, 2, 1, 1], &[2, 0, 3, 4, 1], &[], false),
+    (&[8, 2, 1, 1, 1, 1], &[2, 5, 3, 0, 4, 1], &[], true),
+    (&[1, 1, 7, 1, 1, 1], &[2, 4, 1, 5, 3, 0], &[&[199]], false),
     (&[30, 40], &[], &[&[8, 128]], true),
     (&[64, 64], &[], &[&[8, 8]], true),
     (&[1024, 1024], &[], &[], true),
@@ -157,15 +163,27 @@ impl Random {
         Layout { minor_to_major, tiles }
     }
 
-    /// A shape of about 2^20 elements at most with a layout of at most 2^22 cells; on average one case in twenty has one element (rank 0 or more).
-    pub fn case(&mut self) -> Case {
-        let one = self.below(20) == 0;
+    fn case(&mut self, good: impl Fn(u64, u64) -> bool) -> Case {
         loop {
             let sizes = self.sizes();
             let layout = self.layout(sizes.len());
-            if (product(&sizes) == Some(1)) == one && padded(&sizes, &layout).is_some_and(|n| n <= 1 << 22) {
-                return Case { sizes, layout };
+            if let (Some(count), Some(padded)) = (product(&sizes), padded(&sizes, &layout)) {
+                if good(count, padded) {
+                    return Case { sizes, layout };
+                }
             }
         }
+    }
+
+    /// A shape of about 2^20 elements at most with a layout of at most 2^22 cells; on average one case in twenty has one element (rank 0 or more).
+    pub fn any_case(&mut self) -> Case {
+        let one = self.below(20) == 0;
+        self.case(|count, padded| (count == 1) == one && padded <= 1 << 22)
+    }
+
+    /// A shape of 2 to 64 elements, or of one in about a twentieth of the cases, with a layout of at most 1,024 cells.
+    pub fn few_case(&mut self) -> Case {
+        let one = self.below(20) == 0;
+        self.case(|count, padded| (count == 1) == one && count <= 64 && padded <= 1024)
     }
 }

@@ -1,7 +1,7 @@
 // Measures packing and unpacking: the library beside two ordinary packers with the machine's division, one over arrays and
 // one over vectors, and beside a copy of the padded size.
 // `run pack` measures every case of the list, `run pack list` the main ones, `run pack plain` the plain loop with and without the multipliers
-// on the main ones, and `run pack random SEED N` compares and measures N random cases. One more word, as in `run pack all [4096,1024]` or
+// on the main ones; `run pack random SEED N` compares and measures N random cases, `run pack few SEED N` such of at most 64 elements. One more word, as in `run pack all [4096,1024]` or
 // `run pack plain [4096,1024]`, leaves only the cases that have it in their names.
 mod buffers;
 mod cases;
@@ -15,7 +15,7 @@ mod refused;
 mod vectors;
 
 use buffers::Buffers;
-use cases::Case;
+use cases::{Case, Random};
 use measure::short;
 
 #[allow(improper_ctypes)]
@@ -90,7 +90,8 @@ fn main() {
     let listed = |all| cases::listed(all).into_iter().filter(|c| c.name().contains(part));
     refused::compare();
     match words.first().map_or("", |w| w) {
-        "random" => random::report(number(1, 1), number(2, 100).max(1) as usize),
+        "random" => random::report(number(1, 1), number(2, 100).max(1) as usize, Random::any_case),
+        "few" => random::report(number(1, 1), number(2, 100).max(1) as usize, Random::few_case),
         "plain" => {
             println!("| case | table / division | division / ordinary | table / ordinary | division | table | ordinary |\n|---|---|---|---|---|---|---|");
             listed(false).for_each(|c| report_plain(&c));

@@ -1,4 +1,4 @@
-// The random mode: the library's ratios to both ordinary versions on random cases, and the worst of them.
+// The random modes: the library's ratios to both ordinary versions on random cases, and the worst of them.
 use crate::buffers::Buffers;
 use crate::cases::{Case, Random};
 use crate::measure::Times;
@@ -57,11 +57,11 @@ fn report_against(version: &str, k: usize, found: &mut [Found]) {
     }
 }
 
-pub fn report(seed: u64, count: usize) {
+pub fn report(seed: u64, count: usize, case: fn(&mut Random) -> Case) {
     let mut random = Random(seed);
     let mut found: Vec<Found> = Vec::new();
     for _ in 0..count {
-        let case = random.case();
+        let case = case(&mut random);
         let name = format!("{}, {} elements, {} cells", case.name(), case.count(), case.padded());
         found.push(Found { name, elements: case.count(), ratios: worst_ratios(&case) });
     }
