@@ -1,6 +1,5 @@
 // Padded size, offsets and cells of records that break no rule. Inner functions.
 use super::Layout;
-use super::parts;
 use shape::Shape;
 use tiling::Found;
 ghost use mathlib.Core.Path.{_≡_};
@@ -25,16 +24,8 @@ pub fn padded_capped(shape: Shape, layout: Layout) -> u64
     let lens = layout.tile_len;
     let flat = layout.tile;
     let mut order = [0u64; 6];
-    let mut dims = [0u64; 24];
-    let x = parts::lay_out(
-        &sizes[..rank],
-        &m[..rank],
-        &lens[..tiles],
-        &flat,
-        &mut order,
-        &mut dims,
-    );
-    x.padded
+    tiling::reverse_into(&m[..rank], &mut order);
+    tiling::padded_cells(&sizes[..rank], &order[..rank], &lens[..tiles], &flat)
 }
 
 // The padded size.

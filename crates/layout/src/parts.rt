@@ -27,7 +27,7 @@ pub struct Measured {
 }
 
 // The order and the physical shape, at the fronts of order and dims, and the extent: the padded size is exact up to 2^40 and 2^40 + 1 for anything above.
-pub fn lay_out(
+fn lay_out(
     sizes: &[u64],
     m: &[u64],
     lens: &[usize],

@@ -7,6 +7,7 @@ mod row;
 pub use cell::Found;
 pub use lists::cell_found;
 pub use lists::element_offset;
+pub use lists::padded_cells;
 pub use physical::Physical;
 pub use physical::dims_into;
 pub use physical::offset_by;
