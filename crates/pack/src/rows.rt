@@ -11,7 +11,7 @@ ghost use Rattle.tiling.specs.Tile.{tilesFrom, padded, physical};
 ghost use Rattle.tiling.specs.Ready.{Ready};
 ghost use Rattle.pack.specs.Rows.{Stored, Loaded, scattered, gathered, Reaches, IsCut, IsRow, offsetsFrom};
 
-// The offsets of the first n elements, at the front of the table: the point moves on from element to element.
+// The offsets of the first n elements, at the front of the table: that of the first is 0, and the point moves on from element to element.
 pub fn offsets_into(
     sizes: &[u64],
     p: &[u64],
@@ -25,17 +25,18 @@ pub fn offsets_into(
     requires { ⌜ AreMultipliers (now m) ⌝ }
     requires { ⌜ Ready (now sizes) (now p) (now lens) (now flat) ⌝ }
     requires { ⌜ now dims ≡ physical (now sizes) (now p) (tilesFrom (now lens) (now flat)) ⌝ }
-    requires { ⌜ (n ≤ prod (now sizes)) × (n ≤ length (now table)) ⌝ }
+    requires { ⌜ (0 < n) × (n ≤ prod (now sizes)) × (n ≤ length (now table)) ⌝ }
     ensures { λ _. ⌜ take n (now (table .exit)) ≡ offsetsFrom (now (sizes .entry)) (now (p .entry)) (tilesFrom (now (lens .entry)) (now (flat .entry))) n ⌝ }
 {
     let mut point = [0u64; 6];
     let mut at = [0u64; 24];
     let rank = sizes.len();
+    table[0] = 0;
     let mut j: usize = 0;
-    while j < n {
-        table[j] = tiling::placed(sizes, p, lens, flat, dims, &point[..rank], &mut at, m);
+    while j + 1 < n {
         radix::advance(sizes, &mut point);
         j += 1;
+        table[j] = tiling::placed(sizes, p, lens, flat, dims, &point[..rank], &mut at, m);
     }
 }
 

@@ -5,6 +5,7 @@ pub mod Sums
 pub mod InPlace
 pub mod Reaches
 pub mod Rows
+pub mod First
 pub mod Levels
 pub mod Undo
 pub mod Shaped

@@ -5,7 +5,7 @@ use mathlib.Core.Logic.{⊎-elim, _⊎_, inl, inr}
 use Prim.Native.Nat.{ℕ, zero, suc, _+_, _-_, _*_, _/_, _%_, _<_, _≤_, min}
 use native.Mathlib.Nat.{zero-div, zero-mod, zero-mul, zero-add, one-mul, add-zero, add-mul, add-assoc, mul-assoc, mul-pos, mul-comm, div-one, div-add-mod', mod-lt, mod-le, div-eq-of-lt, mod-eq-of-lt, div-div-eq-div-mul, div-lt-iff-lt-mul, lt-div-mul-add, lt-of-mul-lt-mul-right, mul-add-div-right, mul-add-mod-self-right, mul-le-mul-right, suc-mul, not-suc-le-zero, le-of-suc-le-suc, min-le-left, min-le-right, min-eq-left, min-eq-right}
 use native.Mathlib.Omega.{arith}
-use mathlib.Core.List.{List, [], _∷_, _++_}
+use mathlib.Core.List.{List, [], _∷_}
 use lib.Dec.{ltb, eqb}
 use lib.ListN.{length, getD, take, drop, length-map}
 use lib.Seq.{drop-cons}
@@ -22,7 +22,7 @@ use Rattle.tiling.proofs.Sums.{Added, Sums, added-row, sums-tile, sums-
 use Rattle.tiling.proofs.Reaches.{reach-place}
 use Rattle.tiling.proofs.Tiling.{Pos, all, one, Tiles, tiled, tile-length-index}
 use Rattle.tiling.specs.Row.{quotientReach, remainderReach, dividedReach, tiledReach, reached, rowRoom}
-use Rattle.tiling.specs.Tile.{zipWith, tileIndex, indexOf, gather, physical, offsetAt, offset}
+use Rattle.tiling.specs.Tile.{tileIndex, indexOf, gather, physical, offsetAt, offset}
 use Rattle.tiling.specs.declared.row.Reach.{Reach}
 
 -- a reach never grows
@@ -371,62 +371,3 @@ offset-none sizes p tss v e n =
     let z : length p ≡ 0 = v .rank ∙ e in
     row-none (physical sizes p tss) (indexOf tss (gather p (digits sizes n)))
     (index-none tss (gather p (digits sizes n)) (subst (λ (m : ℕ). Tiles tss m) z (v .tiles)) (length-map p (λ (o : ℕ). getD (digits sizes n) o 0) ∙ z))
-
--- the first element lies in the first cell: an index of zeros stays one through the order and every tile
-data Zeros : List ℕ → Type 0 where
-  empty : Zeros []
-  zeros : {es : List ℕ} → Zeros es → Zeros (0 ∷ es)
-
-zero-in-front : {x : ℕ} {es : List ℕ} → x ≡ 0 → Zeros es → Zeros (x ∷ es)
-zero-in-front e z = rw e (zeros z)
-
-zeros-digits : (ds : List ℕ) → Zeros (digits ds 0)
-zeros-digits [] = empty
-zeros-digits (d ∷ ds) = zero-in-front (zero-div (prod ds)) (rw (zero-mod (prod ds)) (zeros-digits ds))
-
-zeros-at : {es : List ℕ} → Zeros es → (k : ℕ) → getD es k 0 ≡ 0
-zeros-at empty k = refl
-zeros-at (zeros z) zero = refl
-zeros-at (zeros z) (suc k) = zeros-at z k
-
-zeros-gather : (p : List ℕ) {es : List ℕ} → Zeros es → Zeros (gather p es)
-zeros-gather [] z = empty
-zeros-gather (d ∷ p) z = zero-in-front (zeros-at z d) (zeros-gather p z)
-
-zeros-take : (k : ℕ) {es : List ℕ} → Zeros es → Zeros (take k es)
-zeros-take zero z = empty
-zeros-take (suc k) empty = empty
-zeros-take (suc k) (zeros z) = zeros (zeros-take k z)
-
-zeros-drop : (k : ℕ) {es : List ℕ} → Zeros es → Zeros (drop k es)
-zeros-drop zero z = z
-zeros-drop (suc k) empty = empty
-zeros-drop (suc k) (zeros z) = zeros-drop k z
-
-zeros-append : {es fs : List ℕ} → Zeros es → Zeros fs → Zeros (es ++ fs)
-zeros-append empty w = w
-zeros-append (zeros z) w = zeros (zeros-append z w)
-
-zeros-zip : (f : ℕ → ℕ → ℕ) → ((t : ℕ) → f 0 t ≡ 0) → (ts : List ℕ) {es : List ℕ} → Zeros es → Zeros (zipWith f es ts)
-zeros-zip f h ts empty = empty
-zeros-zip f h [] (zeros z) = empty
-zeros-zip f h (t ∷ ts) (zeros z) = zero-in-front (h t) (zeros-zip f h ts z)
-
-zeros-tile : (ts : List ℕ) {es : List ℕ} → Zeros es → Zeros (tileIndex ts es)
-unfolding tileIndex
-zeros-tile ts {es} z =
-    let k = length es - length ts in
-    zeros-append (zeros-take k z) (zeros-append (zeros-zip _/_ zero-div ts (zeros-drop k z)) (zeros-zip _%_ zero-mod ts (zeros-drop k z)))
-
-zeros-index : (tss : List (List ℕ)) {es : List ℕ} → Zeros es → Zeros (indexOf tss es)
-zeros-index [] z = z
-zeros-index (ts ∷ tss) z = zeros-index tss (zeros-tile ts z)
-
-zeros-row : (ds : List ℕ) {es : List ℕ} → Zeros es → rowMajor ds es ≡ 0
-zeros-row [] z = refl
-zeros-row (d ∷ ds) empty = refl
-zeros-row (d ∷ ds) (zeros z) = omega (arith, zero-mul (prod ds), zeros-row ds z)
-
-pub offset-first : (sizes p : List ℕ) (tss : List (List ℕ)) → offset sizes p tss 0 ≡ 0
-unfolding offset offsetAt
-offset-first sizes p tss = zeros-row (physical sizes p tss) (zeros-index tss (zeros-gather p (zeros-digits sizes)))

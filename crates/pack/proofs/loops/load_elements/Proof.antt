@@ -9,7 +9,7 @@ use lib.ListN.{length}
 use Rattle.radix.specs.Radix.{prod}
 use Rattle.tiling.specs.Tile.{tilesFrom}
 use Rattle.tiling.proofs.OwnCells.{Valid, offset-below}
-use Rattle.tiling.proofs.Rows.{offset-first}
+use Rattle.tiling.proofs.First.{offset-first}
 use Rattle.tiling.proofs.Shaped.{shaped-valid}
 use Rattle.pack.proofs.Walking.{load-one}
 use Rattle.pack.proofs.loops.load_elements.Statement.{statement}

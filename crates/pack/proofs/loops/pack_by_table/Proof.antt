@@ -8,6 +8,7 @@ use native.Mathlib.Omega.{arith}
 use denote.Ref.{now}
 use lib.ListN.{length, take}
 use Rattle.radix.specs.Radix.{prod}
+use Rattle.radix.proofs.Loops.{rest-pos}
 use Rattle.tiling.specs.Tile.{tilesFrom}
 use Rattle.tiling.proofs.OwnCells.{Valid}
 use Rattle.tiling.proofs.Shaped.{shaped-valid}
@@ -39,7 +40,7 @@ slice-aggregate-offsets-into-2 c = search needs
 offsets-into-requires : tie.Need-offsets-into-requires
 offsets-into-requires c κs =
     let s = start c in
-    (record { at = λ k h. absurd (not-suc-le-zero h) }, (s .pre .0, (s .pre .1 .0, (omega (arith, s .pre .1 .1 .0 .0), omega (arith, s .pre .1 .1 .0 .1)))))
+    (record { at = λ k h. absurd (not-suc-le-zero h) }, (s .pre .0, (s .pre .1 .0, (omega (arith, rest-pos (now (s .args .sizes)) 0 (s .pre .0 .shaped .small), s .pre .1 .1 .0 .0), omega (arith, s .pre .1 .1 .0 .0), omega (arith, s .pre .1 .1 .0 .1)))))
 
 -- the table has the offsets of all elements
 abbrev All : tie.After-offsets-into → List ℕ

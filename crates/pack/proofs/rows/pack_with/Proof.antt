@@ -2,7 +2,7 @@
 use borrow.Author.Needs.{needs}
 use mathlib.Core.Path.{sym, ap, _∙_}
 use Prim.Native.Nat.{_*_, _≤_}
-use native.Mathlib.Nat.{mul-le-mul-right}
+use native.Mathlib.Nat.{mul-pos, mul-le-mul-right}
 use native.Mathlib.Omega.{arith}
 use denote.Ref.{now}
 use lib.ListN.{length}
@@ -30,7 +30,7 @@ offsets-into-requires : tie.Need-offsets-into-requires
 offsets-into-requires c κs =
     let g = c .before .before in
     let s = start g in
-    (s .pre .0, (s .pre .1 .0, (s .pre .1 .1 .0, (few g, g .cut-of .ensures .1))))
+    (s .pre .0, (s .pre .1 .0, (s .pre .1 .1 .0, (mul-pos (g .cut-of .ensures .0 .wide) (g .cut-of .ensures .0 .span), few g, g .cut-of .ensures .1))))
 
 slice-reshare-prefix-pack-rows : tie.Need-slice-reshare-prefix-pack-rows
 slice-reshare-prefix-pack-rows c = search needs
