@@ -52,12 +52,13 @@ fn calls(run: &mut dyn FnMut()) -> usize {
     calls
 }
 
-/// The times of several versions, each once in every round.
+/// The times of several versions, each once in every round. Each is called once before it is timed, so that none starts from what another one left in the caches.
 pub fn in_turn(rounds: usize, runs: &mut [&mut dyn FnMut()]) -> Vec<Times> {
     let calls: Vec<usize> = runs.iter_mut().map(|run| calls(*run)).collect();
     let mut times: Vec<Times> = runs.iter().map(|_| Times(Vec::new())).collect();
     for _ in 0..rounds {
         for (k, run) in runs.iter_mut().enumerate() {
+            run();
             times[k].0.push(block(*run, calls[k]) / calls[k] as f64);
         }
     }
