@@ -65,7 +65,8 @@ fn row_steps(
     let c = q % size;
     let left = size - c;
     let most = if left < wide { left } else { wide };
-    tiling::row_room(rank, lens, flat, g.place, c, most, m)
+    let f = tiling::row_reach(rank, lens, flat, g.place, c, most, m);
+    f.most
 }
 
 // The values from place a on to the cells that the table names, counted from base.

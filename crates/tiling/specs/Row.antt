@@ -27,6 +27,10 @@ abbrev pub reached : List (List ℕ) → ℕ → Reach → Reach
 reached [] n f = f
 reached (ts ∷ tss) n f = reached tss (n + length ts) (tiledReach ts n f)
 
--- how many coordinates a row has from coordinate c at place i on, b at most
+-- the reach of a row from coordinate c at place i on, of b coordinates at most
+abbrev pub rowReach : List (List ℕ) → ℕ → ℕ → ℕ → ℕ → Reach
+rowReach tss n i c b = reached tss n (record { place = i; coordinate = c; scale = 1; most = b })
+
+-- and how many coordinates it has
 abbrev pub rowRoom : List (List ℕ) → ℕ → ℕ → ℕ → ℕ → ℕ
-rowRoom tss n i c b = reached tss n (record { place = i; coordinate = c; scale = 1; most = b }) .most
+rowRoom tss n i c b = rowReach tss n i c b .most

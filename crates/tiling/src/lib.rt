@@ -15,4 +15,5 @@ pub use physical::offset_in;
 pub use physical::physical_dims;
 pub use physical::placed;
 pub use physical::reverse_into;
-pub use row::row_room;
+pub use row::Reach;
+pub use row::row_reach;

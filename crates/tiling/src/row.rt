@@ -1,12 +1,13 @@
 // How far a row of elements reaches: no tile's remainder carries while its coordinate is moved on. Inner functions.
+use inner::Divided;
 use reciprocal::inner;
 ghost use mathlib.Core.Path.{_≡_};
-ghost use Prim.Native.Nat.{_+_, _<_, _≤_, _^_};
+ghost use Prim.Native.Nat.{_+_, _/_, _%_, _<_, _≤_, _^_};
 ghost use lib.ListN.{length};
 ghost use Rattle.radix.specs.Radix.{Bounded};
-ghost use Rattle.reciprocal.specs.Multiplier.{AreMultipliers};
+ghost use Rattle.reciprocal.specs.Multiplier.{maxDivisor, AreMultipliers};
 ghost use Rattle.shape.specs.Shape.{maxRank};
-ghost use Rattle.tiling.specs.Row.{tiledReach, rowRoom};
+ghost use Rattle.tiling.specs.Row.{tiledReach, rowReach};
 ghost use Rattle.tiling.specs.Ready.{Levels};
 ghost use Rattle.tiling.specs.Tile.{maxTiles, maxEntry, maxPhysical, tilesFrom};
 
@@ -16,6 +17,21 @@ pub struct Reach {
     pub coordinate: u64,
     pub scale: u64,
     pub most: u64,
+}
+
+// A coordinate by an entry; below the entry nothing is divided.
+fn split(coordinate: u64, t: u64, m: &[u64]) -> Divided
+    requires { ⌜ AreMultipliers (now m) ⌝ }
+    requires { ⌜ (0 < t) × (t ≤ maxDivisor) ⌝ }
+    ensures { λ r. ⌜ (r .quotient ≡ coordinate / t) × (r .remainder ≡ coordinate % t) ⌝ }
+{
+    if coordinate < t {
+        return Divided {
+            quotient: 0,
+            remainder: coordinate,
+        };
+    }
+    inner::divide(coordinate, t, m)
 }
 
 // The reach under the tile ts on n places; m are the multipliers.
@@ -30,7 +46,7 @@ fn tiled_reach(f: Reach, n: usize, ts: &[u64], m: &[u64]) -> Reach
         return f;
     }
     let t = ts[f.place - k];
-    let d = inner::divide(f.coordinate, t, m);
+    let d = split(f.coordinate, t, m);
     if d.remainder == 0 {
         return Reach {
             place: f.place,
@@ -49,8 +65,8 @@ fn tiled_reach(f: Reach, n: usize, ts: &[u64], m: &[u64]) -> Reach
     }
 }
 
-// How many coordinates a row has from a coordinate on, most at most, at a place of so many; m are the multipliers.
-pub fn row_room(
+// The reach of a row from a coordinate on, of most coordinates at most, at a place of so many; m are the multipliers.
+pub fn row_reach(
     rank: usize,
     lens: &[usize],
     flat: &[u64],
@@ -58,11 +74,11 @@ pub fn row_room(
     coordinate: u64,
     most: u64,
     m: &[u64],
-) -> u64
+) -> Reach
     requires { ⌜ AreMultipliers (now m) ⌝ }
     requires { ⌜ (rank ≤ maxRank) × (length (now lens) ≤ maxTiles) × (place < rank) ⌝ }
     requires { ⌜ Levels (now lens) (now flat) rank ⌝ }
-    ensures { λ r. ⌜ r ≡ rowRoom (tilesFrom (now (lens .entry)) (now (flat .entry))) rank place coordinate most ⌝ }
+    ensures { λ r. ⌜ r ≡ rowReach (tilesFrom (now (lens .entry)) (now (flat .entry))) rank place coordinate most ⌝ }
 {
     let mut f = Reach {
         place,
@@ -80,5 +96,5 @@ pub fn row_room(
         n += k;
         l += 1;
     }
-    f.most
+    f
 }

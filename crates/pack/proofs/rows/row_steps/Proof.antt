@@ -8,6 +8,7 @@ use native.Mathlib.Omega.{arith}
 use denote.Ref.{now}
 use lib.ListN.{length}
 use Rattle.tiling.specs.Tile.{tilesFrom}
+use Rattle.tiling.specs.declared.row.Reach.{Reach}
 use Rattle.tiling.proofs.Shaped.{shaped-valid}
 use Rattle.pack.specs.Rows.{IsRow}
 use Rattle.pack.proofs.Cuts.{row-single, row-in}
@@ -41,8 +42,8 @@ below c = let i = start c .pre .1 .1 .0 in mod-lt (start c .args .q) (omega (ari
 sub-left : tie.Need-sub-left
 sub-left c = let h = below c in omega (arith, h)
 
-row-room-requires : tie.Need-row-room-requires
-row-room-requires c κs =
+row-reach-requires : tie.Need-row-reach-requires
+row-reach-requires c κs =
     let s = start (c .before) in
     let r = s .pre .1 .0 .shaped in
     let i = s .pre .1 .1 .0 in
@@ -61,8 +62,8 @@ returns-2 c =
     let s = start (j .before) in
     let r = s .pre .1 .0 .shaped in
     let e = least j in
-    subst (IsRow (now (s .args .sizes)) (now (s .args .p)) (Tss s) (s .args .g) (s .args .q)) (sym (c .row-room .ensures))
+    subst (λ (f : Reach). IsRow (now (s .args .sizes)) (now (s .args .p)) (Tss s) (s .args .g) (s .args .q) (f .most)) (sym (c .row-reach .ensures))
     (row-in (now (s .args .sizes)) (now (s .args .p)) (Tss s) (shaped-valid r) (r .small) (s .args .g) (s .pre .1 .1 .0) (ranked (j .before)) (s .args .q) (j .if2 .most) (s .pre .1 .1 .1) (e .1) (e .2) (e .0))
 
 pub row-steps-spec : {M : Type 1} → statement M
-row-steps-spec = tie.close (tie.spec returns rem-c sub-left row-room-requires returns-2)
+row-steps-spec = tie.close (tie.spec returns rem-c sub-left row-reach-requires returns-2)

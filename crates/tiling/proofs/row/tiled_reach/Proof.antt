@@ -41,8 +41,8 @@ entry : (c : tie.After-shared-slice-known3) → (0 < t c) × (t c ≤ maxEntry)
 unfolding Bounded
 entry c = let s = start c in s .pre .1 .1 (s .args .f .place - (s .args .n - length (now (s .args .ts)))) (omega (arith, s .pre .1 .0, named c .if1 .left))
 
-divide-requires : tie.Need-divide-requires
-divide-requires c κs = (start c .pre .0, entry c)
+split-requires : tie.Need-split-requires
+split-requires c κs = (start c .pre .0, entry c)
 
 mul-t15 : tie.Need-mul-t15
 mul-t15 c =
@@ -55,23 +55,23 @@ returns-2 : tie.Need-returns-2
 returns-2 c =
     let b = c .before .before .before .before in
     let s = start b in
-    let d = c .before .before .before .divide in
+    let d = c .before .before .before .split in
     reach-quotient (now (s .args .ts)) (s .args .n) (s .args .f) (named b .if1 .left) (d .result .quotient) (d .result .remainder) (d .ensures .0) (d .ensures .1) (c .before .if2 .taken)
 
 -- what remains is below the entry
-rest : (c : tie.After-struct-known5) → c .before .before .before .divide .result .remainder < t (c .before .before .before .before)
+rest : (c : tie.After-struct-known5) → c .before .before .before .split .result .remainder < t (c .before .before .before .before)
 rest c =
     let b = c .before .before .before .before in
-    omega (arith, c .before .before .before .divide .ensures .1, mod-lt (start b .args .f .coordinate) (entry b .0))
+    omega (arith, c .before .before .before .split .ensures .1, mod-lt (start b .args .f .coordinate) (entry b .0))
 
 sub-left : tie.Need-sub-left
 sub-left c = let r = rest c in omega (arith, r)
 
-left : (c : tie.After-struct-known5) → start (c .before .before .before .before) .args .f .scale * (t (c .before .before .before .before) - c .before .before .before .divide .result .remainder) ≤ 2 ^ 20 * maxEntry
+left : (c : tie.After-struct-known5) → start (c .before .before .before .before) .args .f .scale * (t (c .before .before .before .before) - c .before .before .before .split .result .remainder) ≤ 2 ^ 20 * maxEntry
 left c =
     let b = c .before .before .before .before in
     let s = start b in
-    let u : t b - c .before .before .before .divide .result .remainder ≤ maxEntry = omega (arith, entry b .1) in
+    let u : t b - c .before .before .before .split .result .remainder ≤ maxEntry = omega (arith, entry b .1) in
     mul-le-mul (s .pre .1 .0 .3) u
 
 mul-left : tie.Need-mul-left
@@ -85,7 +85,7 @@ returns-3 c =
     let e = c .before .before .before .before in
     let b = e .before .before .before .before in
     let s = start b in
-    let d = e .before .before .before .divide in
+    let d = e .before .before .before .split in
     let o = s .args .f .scale * (t b - d .result .remainder) in
     reach-remainder (now (s .args .ts)) (s .args .n) (s .args .f) (named b .if1 .left) (d .result .remainder) (c .before .if3 .most) (d .ensures .1) (e .before .if2 .left)
     (⊎-elim (λ h. h .1 ∙ sym (min-eq-right (omega (arith, h .0 .taken)))) (λ h. h .1 ∙ sym (min-eq-left (h .0 .left))) (c .before .if3 .came))
@@ -98,7 +98,7 @@ tiled-reach-spec =
     returns
     mul-t
     shared-slice-read-t
-    divide-requires
+    split-requires
     mul-t15
     returns-2
     sub-left

@@ -1,4 +1,4 @@
--- `tiling::row::row_room` meets its contract. The invariant: the tiles that are left make the answer of the reach. Assumes nothing.
+-- `tiling::row::row_reach` meets its contract. The invariant: the tiles that are left make the answer of the reach. Assumes nothing.
 use mathlib.Core.Path.{_≡_, refl, sym, ap, _∙_, subst}
 use mathlib.Core.List.{List}
 use Prim.Native.Nat.{ℕ, _+_, _-_, _*_, _^_, _≤_, zero-le}
@@ -15,8 +15,8 @@ use Rattle.tiling.specs.Ready.{Levels}
 use Rattle.tiling.specs.Row.{tiledReach, reached}
 use Rattle.tiling.specs.Tile.{tilesFrom, maxEntries, maxEntry, maxPhysical}
 use Rattle.tiling.specs.declared.row.Reach.{Reach}
-use Rattle.tiling.proofs.row.row_room.Statement.{statement}
-use Rattle.tiling.proofs.row.row_room.Tie as tie
+use Rattle.tiling.proofs.row.row_reach.Statement.{statement}
+use Rattle.tiling.proofs.row.row_reach.Tie as tie
 
 abbrev first : ℕ → ℕ → ℕ → Reach
 first place coordinate most = record { place = place; coordinate = coordinate; scale = 1; most = most }
@@ -115,10 +115,10 @@ returns c =
     let s = c .before .before .before .before .before in
     let lens = now (s .args .lens) in
     let flat = now (s .args .flat) in
-    ap (λ (f : Reach). f .most) (reach-end lens flat (reached (tilesFrom lens flat) (s .args .rank) (first (s .args .place) (s .args .coordinate) (s .args .most))) (c .before .loop .f) (c .before .loop .n) (c .before .loop .l) (c .before .loop .inv) (c .loop-test .left))
+    reach-end lens flat (reached (tilesFrom lens flat) (s .args .rank) (first (s .args .place) (s .args .coordinate) (s .args .most))) (c .before .loop .f) (c .before .loop .n) (c .before .loop .l) (c .before .loop .inv) (c .loop-test .left)
 
-pub row-room-spec : {M : Type 1} → statement M
-row-room-spec =
+pub row-reach-spec : {M : Type 1} → statement M
+row-reach-spec =
     tie.close
     (tie.spec
     Inv-loop
