@@ -1,4 +1,5 @@
 pub mod Repeats
 pub mod Limits
 pub mod Permutations
+pub mod Marks
 pub mod Theorems
