@@ -9,3 +9,4 @@ pub mod First
 pub mod Levels
 pub mod Undo
 pub mod Shaped
+pub mod Alone

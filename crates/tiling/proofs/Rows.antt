@@ -50,25 +50,25 @@ pos-at (one h p) zero l = h
 pos-at (one h p) (suc k) l = pos-at p k (le-of-suc-le-suc l)
 
 -- a row has at least one coordinate
-one-some : (b : Bool) (t m : ℕ) (f : Reach) → 0 < t → 0 < f .scale → 0 < f .most → (0 < one-of b t m f .scale) × (0 < one-of b t m f .most)
-one-some true t m f p s h = (mul-pos s p, h)
-one-some false t m f p s h = (s, lt-min {a = f .most} h (mul-pos s (omega (arith, mod-lt (f .coordinate) p))))
+one-some : (b : Bool) (t m : ℕ) (f : Reach) → 0 < t → 0 < f .scale → (0 < one-of b t m f .scale) × (0 < f .most → 0 < one-of b t m f .most)
+one-some true t m f p s = (mul-pos s p, λ h. h)
+one-some false t m f p s = (s, λ h. lt-min {a = f .most} h (mul-pos s (omega (arith, mod-lt (f .coordinate) p))))
   where
     lt-min : {a b : ℕ} → 0 < a → 0 < b → 0 < min a b
     lt-min {a} {b} x y = ⊎-elim (λ (q : a ≤ b). rw (min-eq-left q) x) (λ (q : b < a). let r : min a b ≡ b = min-eq-right (omega arith) in rw r y) (le-or-lt a b)
 
-tiled-some : (ts : List ℕ) (n : ℕ) (f : Reach) → Pos ts → length ts ≤ n → f .place < n → 0 < f .scale → 0 < f .most → (0 < tiledReach ts n f .scale) × (0 < tiledReach ts n f .most)
-tiled-some ts n f p h l s w = go (ltb (f .place) (n - length ts)) refl
+pub tiled-some : (ts : List ℕ) (n : ℕ) (f : Reach) → Pos ts → length ts ≤ n → f .place < n → 0 < f .scale → (0 < tiledReach ts n f .scale) × (0 < f .most → 0 < tiledReach ts n f .most)
+tiled-some ts n f p h l s = go (ltb (f .place) (n - length ts)) refl
   where
-    go : (b : Bool) → ltb (f .place) (n - length ts) ≡ b → (0 < tiled-of b (getD ts (f .place - (n - length ts)) 0) (length ts) f .scale) × (0 < tiled-of b (getD ts (f .place - (n - length ts)) 0) (length ts) f .most)
-    go true e = (s, w)
-    go false e = one-some (eqb (f .coordinate % getD ts (f .place - (n - length ts)) 0) 0) (getD ts (f .place - (n - length ts)) 0) (length ts) f (pos-at p (f .place - (n - length ts)) (omega (arith, ltb-false (f .place) (n - length ts) e))) s w
+    go : (b : Bool) → ltb (f .place) (n - length ts) ≡ b → (0 < tiled-of b (getD ts (f .place - (n - length ts)) 0) (length ts) f .scale) × (0 < f .most → 0 < tiled-of b (getD ts (f .place - (n - length ts)) 0) (length ts) f .most)
+    go true e = (s, λ w. w)
+    go false e = one-some (eqb (f .coordinate % getD ts (f .place - (n - length ts)) 0) 0) (getD ts (f .place - (n - length ts)) 0) (length ts) f (pos-at p (f .place - (n - length ts)) (omega (arith, ltb-false (f .place) (n - length ts) e))) s
 
 pub reached-some : (tss : List (List ℕ)) (n : ℕ) (f : Reach) → Tiles tss n → f .place < n → 0 < f .scale → 0 < f .most → 0 < reached tss n f .most
 reached-some [] n f w l s h = h
 reached-some (ts ∷ tss) n f (tiled p g w) l s h =
-    let a = tiled-some ts n f p g l s h in
-    reached-some tss (n + length ts) (tiledReach ts n f) w (reach-place ts n f g l) (a .0) (a .1)
+    let a = tiled-some ts n f p g l s in
+    reached-some tss (n + length ts) (tiledReach ts n f) w (reach-place ts n f g l) (a .0) (a .1 h)
 
 -- es has a row's first coordinate at the reach's place, fs has how far it is moved, in units of the scale, and gs is their sum
 pub record Moved (n x : ℕ) (f : Reach) (es fs gs : List ℕ) : Type 0 where
@@ -175,7 +175,7 @@ reached-added (ts ∷ tss) n x f es fs gs (tiled p h w) v y =
     reached-added tss (n + length ts) x (tiledReach ts n f) (tileIndex ts es) (tileIndex ts fs) (tileIndex ts gs) w g y
 
 -- the digits of 0, and how many digits there are
-digits-none : (ds : List ℕ) (k : ℕ) → getD (digits ds 0) k 0 ≡ 0
+pub digits-none : (ds : List ℕ) (k : ℕ) → getD (digits ds 0) k 0 ≡ 0
 digits-none [] k = refl
 digits-none (d ∷ ds) zero = zero-div (prod ds)
 digits-none (d ∷ ds) (suc k) = ap (λ (x : ℕ). getD (digits ds x) k 0) (zero-mod (prod ds)) ∙ digits-none ds k
@@ -273,7 +273,7 @@ begun (suc k) (d ∷ ds) r c j l h g =
     }
 
 -- a permutation has a dimension at one place only
-one-place : (p : List ℕ) → Permutation p → (i k : ℕ) → i < length p → k < length p → getD p k 0 ≡ getD p i 0 → k ≡ i
+pub one-place : (p : List ℕ) → Permutation p → (i k : ℕ) → i < length p → k < length p → getD p k 0 ≡ getD p i 0 → k ≡ i
 unfolding isPermutation
 one-place p q i k l h e =
     let a = free-apart p (and-right (inRange (length p) p) (free p) (permutation-is p q)) in

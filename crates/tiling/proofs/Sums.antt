@@ -54,7 +54,7 @@ zero-carry e f t p h =
     (λ (q : e ≡ 0). rw (q, zero-mod t, zero-add (f % t)) (mod-lt f p))
     (λ (q : f ≡ 0). rw (q, zero-mod t, add-zero (e % t)) (mod-lt e p)) h
 
-equal-or : (a b : ℕ) → (a ≡ b) ⊎ (a ≡ b → ⊥)
+pub equal-or : (a b : ℕ) → (a ≡ b) ⊎ (a ≡ b → ⊥)
 equal-or zero zero = inl refl
 equal-or zero (suc b) = inr (λ e. omega (arith, e))
 equal-or (suc a) zero = inr (λ e. omega (arith, e))
@@ -73,7 +73,7 @@ module _ (ts es : List ℕ) (n : ℕ) (e : length es ≡ n) (h : length ts ≤ n
   pub index-third : (k : ℕ) → n ≤ k → k < n + length ts → getD (tileIndex ts es) k 0 ≡ getD es (k - length ts) 0 % getD ts (k - n) 0
   index-third k g l = third-index ts es (omega arith) k (omega arith) (omega arith) ∙ ap (λ (x : ℕ). getD es (k - length ts) 0 % getD ts (k - x) 0) e
 
-  index-past : (k : ℕ) → n + length ts ≤ k → getD (tileIndex ts es) k 0 ≡ 0
+  pub index-past : (k : ℕ) → n + length ts ≤ k → getD (tileIndex ts es) k 0 ≡ 0
   index-past k g = List·getD-eq-default (tileIndex ts es) 0 (omega (arith, tile-length-index ts es (omega arith)))
 
 -- the places of a tiled index, in turn
@@ -151,7 +151,7 @@ module _ (ts es fs gs : List ℕ) (i j : ℕ) (s : Sums i es fs gs) (h : length 
           apart = tile-apart;
         }
 
-past-gather : (p xs : List ℕ) (k : ℕ) → length p ≤ k → getD (gather p xs) k 0 ≡ 0
+pub past-gather : (p xs : List ℕ) (k : ℕ) → length p ≤ k → getD (gather p xs) k 0 ≡ 0
 past-gather p xs k l = List·getD-eq-default (gather p xs) 0 {n = k} (omega (arith, length-map p (λ (x : ℕ). getD xs x 0)))
 
 -- a sum in another order, where place i has what place d had and no other place has
