@@ -9,4 +9,4 @@ pub mod First
 pub mod Levels
 pub mod Undo
 pub mod Shaped
-pub mod Alone
+pub mod Coordinates
