@@ -1,6 +1,6 @@
 pub mod Packing
 pub mod Walking
-pub mod Points
+pub mod Tables
 pub mod Cuts
 pub mod Rules
 pub mod Theorems

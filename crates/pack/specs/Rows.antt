@@ -50,6 +50,19 @@ Reaches base table n = (j : ℕ) → j < length table → base + getD table j 0 
 abbrev pub offsetsFrom : List ℕ → List ℕ → List (List ℕ) → ℕ → List ℕ
 offsetsFrom sizes p tss n = tab (offset sizes p tss) n
 
+-- after has what before has in its first a places, and in the next len places the first len entries again, each with base added
+abbrev pub Repeated : ℕ → ℕ → ℕ → List ℕ → List ℕ → Type 0
+Repeated base a len before after = ((k : ℕ) → k < a → getD after k 0 ≡ getD before k 0) × ((k : ℕ) → k < len → getD after (a + k) 0 ≡ base + getD before k 0)
+
+-- the table has the offsets of the elements below m and below n
+abbrev pub HasOffsets : List ℕ → List ℕ → List (List ℕ) → ℕ → ℕ → List ℕ → Type 0
+HasOffsets sizes p tss m n table = (k : ℕ) → k < m → k < n → getD table k 0 ≡ offset sizes p tss k
+
+-- a coordinate of the dimension at place i of the order spans so many elements
+pub record IsSpan (sizes p : List ℕ) (i span : ℕ) : Type 0 where
+  pub inside : i < length p
+  pub same : span ≡ prod (drop (suc (getD p i 0)) sizes)
+
 -- g cuts the elements of the sizes at the coordinates of a dimension, if there is one
 pub record IsCut (g : Cut) (sizes p : List ℕ) : Type 0 where
   pub wide : 0 < g .wide

@@ -11,7 +11,7 @@ ghost use Rattle.pack.specs.Pack.{packed, unpacked};
 ghost use Rattle.pack.specs.Rows.{Stored, Loaded, startOf};
 
 // Fewer elements than this go along a table of all their offsets.
-const FEW: u64 = 24;
+const FEW: u64 = 64;
 
 // From so many elements on the long table and the multipliers are worth their making.
 const MANY: u64 = 4096;
@@ -163,11 +163,11 @@ fn pack_by_table(
 )
     requires { ⌜ Ready (now sizes) (now p) (now lens) (now flat) ⌝ }
     requires { ⌜ now dims ≡ physical (now sizes) (now p) (tilesFrom (now lens) (now flat)) ⌝ }
-    requires { ⌜ (count ≡ prod (now sizes)) × (count ≤ 24) ⌝ }
+    requires { ⌜ (count ≡ prod (now sizes)) × (count ≤ 64) ⌝ }
     requires { ⌜ (prod (now sizes) ≤ length (now source)) × (padded (now sizes) (now p) (tilesFrom (now lens) (now flat)) ≤ length (now cells)) ⌝ }
     ensures { λ _. ⌜ Stored (now (sizes .entry)) (now (p .entry)) (tilesFrom (now (lens .entry)) (now (flat .entry))) (now (source .entry)) (prod (now (sizes .entry))) (now (cells .entry)) (now (cells .exit)) ⌝ }
 {
-    let mut table = [0u64; 24];
+    let mut table = [0u64; 64];
     let none = [0u64; 1];
     let n = count as usize;
     rows::offsets_into(sizes, p, lens, flat, dims, n, &mut table, &none[..0]);
@@ -187,11 +187,11 @@ fn unpack_by_table(
 )
     requires { ⌜ Ready (now sizes) (now p) (now lens) (now flat) ⌝ }
     requires { ⌜ now dims ≡ physical (now sizes) (now p) (tilesFrom (now lens) (now flat)) ⌝ }
-    requires { ⌜ (count ≡ prod (now sizes)) × (count ≤ 24) ⌝ }
+    requires { ⌜ (count ≡ prod (now sizes)) × (count ≤ 64) ⌝ }
     requires { ⌜ (prod (now sizes) ≤ length (now destination)) × (padded (now sizes) (now p) (tilesFrom (now lens) (now flat)) ≤ length (now cells)) ⌝ }
     ensures { λ _. ⌜ Loaded (now (sizes .entry)) (now (p .entry)) (tilesFrom (now (lens .entry)) (now (flat .entry))) (now (cells .entry)) (prod (now (sizes .entry))) (now (destination .entry)) (now (destination .exit)) ⌝ }
 {
-    let mut table = [0u64; 24];
+    let mut table = [0u64; 64];
     let none = [0u64; 1];
     let n = count as usize;
     rows::offsets_into(sizes, p, lens, flat, dims, n, &mut table, &none[..0]);

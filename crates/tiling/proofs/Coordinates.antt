@@ -280,8 +280,8 @@ module _ (sizes p : List ℕ) (tss : List (List ℕ)) (v : Valid sizes p tss) (i
   pub reached-below : f .coordinate * f .scale ≤ x
   reached-below = omega (arith, reached-worth, kept-le tss (length p) start)
 
-  pub reached-some : 0 < x → 0 < f .coordinate * f .scale
-  reached-some h = omega (arith, reached-worth, kept-pos tss (length p) start h)
+  pub reached-more : 0 < x → 0 < f .coordinate * f .scale
+  reached-more h = omega (arith, reached-worth, kept-pos tss (length p) start h)
 
   module _ (h : i < length p) where
     pub reached-place : f .place < length (physical sizes p tss)

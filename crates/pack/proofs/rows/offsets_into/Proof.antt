@@ -1,143 +1,150 @@
--- `pack::rows::offsets_into` meets its contract. The invariant: the entries up to j are the offsets, and the point is that of element j. Assumes nothing.
+-- `pack::rows::offsets_into` meets its contract. The invariant: the table has the offsets of the elements that differ in the dimensions from k on only. Assumes nothing.
 use borrow.Author.Needs.{needs}
-use mathlib.Core.Path.{_≡_, refl, sym, ap, _∙_}
-use Prim.Native.Nat.{ℕ, _+_, _-_, _%_, _<_, _≤_}
+use mathlib.Core.Path.{_≡_, refl, sym, ap, _∙_, subst}
+use mathlib.Core.List.{List}
+use Prim.Native.Nat.{ℕ, _+_, _-_, _*_, _<_, _≤_}
+use native.Mathlib.Nat.{one-mul, mul-comm}
 use native.Mathlib.Omega.{arith}
 use denote.Ref.{now}
-use lib.ListN.{length, take, set, length-set}
-use lib.Seq.{take-length, length-take-le}
-use Rattle.radix.proofs.Lists.{fill-next}
-use Rattle.radix.proofs.Next.{next-digits}
-use Rattle.radix.proofs.Radix.{length-tab, getD-tab}
-use Rattle.radix.specs.Radix.{tab, prod, digits, In}
-use Rattle.shape.specs.Shape.{maxRank}
-use Rattle.tiling.specs.Tile.{tilesFrom, offset, maxPhysical}
-use Rattle.tiling.proofs.First.{offset-first}
-use Rattle.pack.proofs.Points.{point-first, point-inside, point-offset}
+use lib.ListN.{length, getD, drop, length-set, drop-of-length-le}
+use Rattle.radix.specs.Radix.{prod, Bounded}
+use Rattle.tiling.specs.Tile.{tilesFrom}
+use Rattle.pack.specs.Rows.{HasOffsets, IsSpan}
+use Rattle.pack.proofs.Tables.{table-first, table-full, before-all, before-size, before-room, before-at, before-span}
 use Rattle.pack.proofs.rows.offsets_into.Statement.{statement}
 use Rattle.pack.proofs.rows.offsets_into.Tie as tie
 
 abbrev Inv-loop : tie.InvT-loop
-Inv-loop sizes p lens flat dims n table₀ m point₀ at₀ rank j₀ table point at j =
-    (j < n) × (length table ≡ length table₀) × (take (j + 1) table ≡ take (j + 1) (tab (offset sizes p (tilesFrom lens flat)) n)) × (length point ≡ maxRank) × (length at ≡ maxPhysical) × (take (length sizes) point ≡ digits sizes (j % prod sizes))
+Inv-loop sizes p lens flat dims n table₀ m count span₀ k₀ table span k = (k ≤ length sizes) × (span ≡ prod (drop k sizes)) × (length table ≡ length table₀) × HasOffsets sizes p (tilesFrom lens flat) span n table
 
 abbrev μ-loop : tie.MeasureT-loop
-μ-loop sizes p lens flat dims n table₀ m point₀ at₀ rank j₀ table point at j = n - j
+μ-loop sizes p lens flat dims n table₀ m count span₀ k₀ table span k = k
+
+-- where the function starts
+abbrev first : tie.After-shared-slice-known6 Inv-loop μ-loop → tie.Start Inv-loop μ-loop
+first c = c .before .before .before .before .before .before .before
 
 abbrev start : tie.At-loop Inv-loop μ-loop → tie.Start Inv-loop μ-loop
-start c = c .before .before .before .before .before .before .before .before
+start c = first (c .before)
 
-abbrev F : tie.Start Inv-loop μ-loop → ℕ → ℕ
-F s = offset (now (s .args .sizes)) (now (s .args .p)) (tilesFrom (now (s .args .lens)) (now (s .args .flat)))
+abbrev Tss : tie.Start Inv-loop μ-loop → List (List ℕ)
+Tss s = tilesFrom (now (s .args .lens)) (now (s .args .flat))
 
 -- there is a first place, and it has the offset of the first element
 room : (s : tie.Start Inv-loop μ-loop) → 0 < length (now (s .args .table))
 room s = omega (arith, s .pre .1 .1 .1 .0, s .pre .1 .1 .1 .2)
 
-first : (s : tie.Start Inv-loop μ-loop) → take 1 (set (now (s .args .table)) 0 0) ≡ take 1 (tab (F s) (s .args .n))
-first s =
-    let n = s .args .n in
-    let h : 0 < n = s .pre .1 .1 .1 .0 in
-    ap (λ (x : ℕ). take 1 (set (now (s .args .table)) 0 x)) (sym (getD-tab (F s) n 0 0 h ∙ offset-first (now (s .args .sizes)) (now (s .args .p)) (tilesFrom (now (s .args .lens)) (now (s .args .flat)))))
-    ∙ fill-next (now (s .args .table)) (tab (F s) n) 0 (room s) (omega (arith, length-tab (F s) n)) refl
-
 slice-write-table : tie.Need-slice-write-table Inv-loop μ-loop
-slice-write-table c = room (c .before .before .before .before .before .before .before)
+slice-write-table c = room (first c)
 
 loop-holds : tie.Need-loop-holds Inv-loop μ-loop
 loop-holds c =
-    let s = c .before .before .before .before .before .before .before in
-    (s .pre .1 .1 .1 .0, refl, first s, refl, refl, point-first (now (s .args .sizes)) maxRank (s .pre .1 .0 .shaped .few))
+    let s = first c in
+    let sizes = now (s .args .sizes) in
+    let all : length sizes ≤ length sizes = omega arith in
+    (all, sym (ap prod (drop-of-length-le sizes all)), refl, table-first sizes (now (s .args .p)) (Tss s) (s .args .n) (now (s .args .table)) (room s))
 
-add-loop : tie.Need-add-loop Inv-loop μ-loop
-add-loop c = search needs
-
--- element j is one of the elements, and so is the next one
-next : (c : tie.In-loop Inv-loop μ-loop) → c .before .loop .j + 1 < prod (now (start (c .before) .args .sizes))
-next c = omega (arith, c .loop-test .taken, start (c .before) .pre .1 .1 .1 .1)
-
-slice-aggregate-advance : tie.Need-slice-aggregate-advance Inv-loop μ-loop
-slice-aggregate-advance c = sym (c .before .before .loop .inv .3)
-
-advance-requires : tie.Need-advance-requires Inv-loop μ-loop
-advance-requires c κs =
-    let i = c .before in
+-- a dimension is left
+some : (i : tie.In-loop Inv-loop μ-loop) → 0 < i .before .loop .k
+some i =
     let l = i .before .loop in
-    let sizes = now (start (i .before) .args .sizes) in
-    point-inside sizes (take (length sizes) (l .point)) (l .j) (l .inv .5) (omega (arith, next i))
+    let s = start (i .before) in
+    before-all (now (s .args .sizes)) (now (s .args .p)) (now (s .args .lens)) (now (s .args .flat)) (s .pre .1 .0) (l .k) (s .args .n) (s .pre .1 .1 .1 .1) (omega (arith, l .inv .1, i .loop-test .taken))
 
--- where the loop's turn starts, the point that was moved on, and that there is room for it
-abbrev turn : tie.After-advance Inv-loop μ-loop → tie.In-loop Inv-loop μ-loop
-turn a = a .before .before
+abbrev Size : tie.In-loop Inv-loop μ-loop → ℕ
+Size i = getD (now (start (i .before) .args .sizes)) (i .before .loop .k - 1) 0
 
-moved : (a : tie.After-advance Inv-loop μ-loop) → take (length (now (start (turn a .before) .args .sizes))) (a .advance .last .1 .0) ≡ digits (now (start (turn a .before) .args .sizes)) ((turn a .before .loop .j + 1) % prod (now (start (turn a .before) .args .sizes)))
-moved a =
-    let l = turn a .before .loop in
-    let sizes = now (start (turn a .before) .args .sizes) in
-    next-digits sizes (take (length sizes) (l .point)) (take (length sizes) (a .advance .last .1 .0)) (l .j) (omega (arith, next (turn a))) (l .inv .5) (a .advance .ensures .0) (a .advance .ensures .1)
+-- and the elements that differ in it and those after it only
+more : (i : tie.In-loop Inv-loop μ-loop) → Size i * i .before .loop .span ≡ prod (drop (i .before .loop .k - 1) (now (start (i .before) .args .sizes)))
+more i =
+    let l = i .before .loop in
+    let s = start (i .before) in
+    ap (λ (x : ℕ). Size i * x) (l .inv .1) ∙ before-size (now (s .args .sizes)) (now (s .args .p)) (now (s .args .lens)) (now (s .args .flat)) (s .pre .1 .0) (l .k) (some i) (l .inv .0)
 
-rank : (a : tie.After-advance Inv-loop μ-loop) → length (now (start (turn a .before) .args .sizes)) ≤ length (a .advance .last .1 .0)
-rank a = omega (arith, a .advance .kept .1 .0, turn a .before .loop .inv .3, start (turn a .before) .pre .1 .0 .shaped .few)
+less : (i : tie.In-loop Inv-loop μ-loop) → prod (drop (i .before .loop .k - 1) (now (start (i .before) .args .sizes))) ≤ prod (now (start (i .before) .args .sizes))
+less i =
+    let l = i .before .loop in
+    let s = start (i .before) in
+    before-room (now (s .args .sizes)) (now (s .args .p)) (now (s .args .lens)) (now (s .args .flat)) (s .pre .1 .0) (l .k) (some i) (l .inv .0)
 
-add-j : tie.Need-add-j Inv-loop μ-loop
-add-j c = search needs
+sub-k : tie.Need-sub-k Inv-loop μ-loop
+sub-k c = some c
 
-array-share-prefix-point : tie.Need-array-share-prefix-point Inv-loop μ-loop
-array-share-prefix-point c = rank (c .before)
+mul-size : tie.Need-mul-size Inv-loop μ-loop
+mul-size c = omega (arith, c .before .loop .inv .0, start (c .before) .pre .1 .0 .shaped .few)
 
-slice-aggregate-placed : tie.Need-slice-aggregate-placed Inv-loop μ-loop
-slice-aggregate-placed c = let a = c .before .before in sym (length-take-le (length (now (start (turn a .before) .args .sizes))) (a .advance .last .1 .0) (rank a))
+shared-slice-read-size : tie.Need-shared-slice-read-size Inv-loop μ-loop
+shared-slice-read-size c = let i = c .before in omega (arith, some i, i .before .loop .inv .0)
 
-slice-aggregate-placed-2 : tie.Need-slice-aggregate-placed-2 Inv-loop μ-loop
-slice-aggregate-placed-2 c = sym (turn (c .before .before .before) .before .loop .inv .4)
+place-of-requires : tie.Need-place-of-requires Inv-loop μ-loop
+place-of-requires c κs = search needs
 
-placed-requires : tie.Need-placed-requires Inv-loop μ-loop
-placed-requires c κs =
-    let a = c .before .before .before in
-    let s = start (turn a .before) in
-    (s .pre .0, (s .pre .1 .0, (s .pre .1 .1 .0, (a .advance .ensures .0, turn a .before .loop .inv .4))))
+-- the dimension's place in the order
+abbrev turn : tie.After-place-of Inv-loop μ-loop → tie.In-loop Inv-loop μ-loop
+turn a = a .before .before .before
 
-mul-table : tie.Need-mul-table Inv-loop μ-loop
-mul-table c = search needs
+at : (a : tie.After-place-of Inv-loop μ-loop) → getD (now (start (turn a .before) .args .p)) (a .place-of .result) 0 ≡ turn a .before .loop .k - 1
+at a =
+    let i = turn a in
+    let s = start (i .before) in
+    ap (λ (x : ℕ). getD (now (s .args .p)) x 0) (a .place-of .ensures) ∙ before-at (now (s .args .sizes)) (now (s .args .p)) (now (s .args .lens)) (now (s .args .flat)) (s .pre .1 .0) (i .before .loop .k) (some i) (i .before .loop .inv .0)
 
--- the place is inside the table
-inside : (i : tie.In-loop Inv-loop μ-loop) → i .before .loop .j + 1 < length (i .before .loop .table)
-inside i = let s = start (i .before) in omega (arith, i .loop-test .taken, i .before .loop .inv .1, length-set (now (s .args .table)) 0 0, s .pre .1 .1 .1 .2)
-
-slice-write-table-2 : tie.Need-slice-write-table-2 Inv-loop μ-loop
-slice-write-table-2 c = inside (turn (c .before .before .before .before .before))
-
-loop-less : tie.Need-loop-less Inv-loop μ-loop
-loop-less c = search needs
-
-loop-again : tie.Need-loop-again Inv-loop μ-loop
-loop-again c =
-    let w = c .before in
-    let a = w .before .before .before .before in
+repeat-rows-requires : tie.Need-repeat-rows-requires Inv-loop μ-loop
+repeat-rows-requires c κs =
+    let a = c .before in
     let i = turn a in
     let l = i .before .loop in
     let s = start (i .before) in
-    let n = s .args .n in
-    let sizes = now (s .args .sizes) in (
-      i .loop-test .taken,
-      length-set (l .table) (l .j + 1) (w .placed .result) ∙ l .inv .1,
-      ap (λ (x : ℕ). take (l .j + 1 + 1) (set (l .table) (l .j + 1) x)) (w .placed .ensures ∙ point-offset sizes (take (length sizes) (a .advance .last .1 .0)) (l .j + 1) (moved a) (now (s .args .p)) (tilesFrom (now (s .args .lens)) (now (s .args .flat))) (next i) ∙ sym (getD-tab (F s) n (l .j + 1) 0 (i .loop-test .taken)))
-          ∙ fill-next (l .table) (tab (F s) n) (l .j + 1) (inside i) (omega (arith, length-tab (F s) n, i .loop-test .taken)) (l .inv .2),
-      a .advance .kept .1 .0 ∙ l .inv .3,
-      w .placed .kept .1 .1 .1 .1 .1 .1 .0 ∙ l .inv .4,
-      moved a,
+    let w : IsSpan (now (s .args .sizes)) (now (s .args .p)) (a .place-of .result) (l .span) =
+    subst (λ (x : ℕ). IsSpan (now (s .args .sizes)) (now (s .args .p)) x (l .span)) (sym (a .place-of .ensures))
+    (before-span (now (s .args .sizes)) (now (s .args .p)) (now (s .args .lens)) (now (s .args .flat)) (s .pre .1 .0) (l .k) (some i) (l .inv .0) (l .span) (l .inv .1)) in
+    let n : s .args .n ≤ length (l .table) = omega (arith, l .inv .2, length-set (now (s .args .table)) 0 0, s .pre .1 .1 .1 .2) in
+    (s .pre .0, (s .pre .1 .0, (s .pre .1 .1 .0, ((w, n), l .inv .3))))
+
+mul-span : tie.Need-mul-span Inv-loop μ-loop
+mul-span c =
+    let i = turn (c .before .before .before .before) in
+    omega (arith, more i, less i, mul-comm (Size i) (i .before .loop .span), start (i .before) .pre .1 .0 .shaped .count)
+
+loop-less : tie.Need-loop-less Inv-loop μ-loop
+loop-less c = let h = some (turn (c .before .before .before .before)) in omega (arith, h)
+
+loop-again : tie.Need-loop-again Inv-loop μ-loop
+loop-again c =
+    let o = c .before .before in
+    let a = o .before .before in
+    let i = turn a in
+    let l = i .before .loop in
+    let s = start (i .before) in
+    let e : l .span * Size i ≡ Size i * l .span = mul-comm (l .span) (Size i) in
+    let g : getD (now (s .args .sizes)) (getD (now (s .args .p)) (a .place-of .result) 0) 0 * l .span ≡ l .span * Size i = ap (λ (x : ℕ). getD (now (s .args .sizes)) x 0 * l .span) (at a) ∙ sym e in (
+      omega (arith, l .inv .0),
+      e ∙ more i,
+      o .repeat-rows .kept .1 .1 .1 .1 .1 .1 .1 .1 .0 ∙ l .inv .2,
+      λ k h w. o .repeat-rows .ensures k (omega (arith, g, h)) w,
     )
 
+loop-less-2 : tie.Need-loop-less-2 Inv-loop μ-loop
+loop-less-2 c = let h = some (c .before .before) in omega (arith, h)
+
+loop-again-2 : tie.Need-loop-again-2 Inv-loop μ-loop
+unfolding Bounded
+loop-again-2 c =
+    let i = c .before .before in
+    let l = i .before .loop in
+    let s = start (i .before) in
+    let h : 0 < Size i = s .pre .1 .0 .shaped .small (l .k - 1) (omega (arith, some i, l .inv .0)) .0 in
+    let one : Size i ≡ 1 = omega (arith, h, c .if1 .left) in
+    (omega (arith, l .inv .0), sym (one-mul (l .span)) ∙ ap (λ (x : ℕ). x * l .span) (sym one) ∙ more i, l .inv .2, l .inv .3)
+
 same-length : tie.Need-same-length Inv-loop μ-loop
-same-length c = c .before .loop .inv .1 ∙ length-set (now (start (c .before) .args .table)) 0 0
+same-length c = c .before .loop .inv .2 ∙ length-set (now (start (c .before) .args .table)) 0 0
 
 returns : tie.Need-returns Inv-loop μ-loop
 returns c =
     let l = c .before .loop in
     let s = start (c .before) in
-    let n = s .args .n in
-    let e : l .j + 1 ≡ n = omega (arith, l .inv .0, c .loop-test .left) in
-    ap (λ (j : ℕ). take j (l .table)) (sym e) ∙ l .inv .2 ∙ ap (λ (j : ℕ). take j (tab (F s) n)) (e ∙ sym (length-tab (F s) n)) ∙ take-length (tab (F s) n)
+    table-full (now (s .args .sizes)) (now (s .args .p)) (Tss s) (l .span) (s .args .n) (l .table) (l .inv .3) (c .loop-test .left) (omega (arith, l .inv .2, length-set (now (s .args .table)) 0 0, s .pre .1 .1 .1 .2))
 
 pub offsets-into-spec : {M : Type 1} → statement M
 offsets-into-spec =
@@ -147,17 +154,15 @@ offsets-into-spec =
     μ-loop
     slice-write-table
     loop-holds
-    add-loop
-    slice-aggregate-advance
-    advance-requires
-    add-j
-    array-share-prefix-point
-    slice-aggregate-placed
-    slice-aggregate-placed-2
-    placed-requires
-    mul-table
-    slice-write-table-2
+    sub-k
+    mul-size
+    shared-slice-read-size
+    place-of-requires
+    repeat-rows-requires
+    mul-span
     loop-less
     loop-again
+    loop-less-2
+    loop-again-2
     same-length
     returns)
