@@ -3,4 +3,3 @@ pub mod Tests
 pub mod Radix
 pub mod Loops
 pub mod Pigeonhole
-pub mod Next

@@ -1,8 +1,8 @@
 // Mixed radix over slices of sizes and digits, major first. Inner functions of the library.
 ghost use mathlib.Core.Path.{_≡_};
 ghost use mathlib.Core.List.{_++_};
-ghost use Prim.Native.Nat.{_+_, _%_, _<_, _≤_, min};
-ghost use lib.ListN.{length, take, drop};
+ghost use Prim.Native.Nat.{_+_, _<_, _≤_, min};
+ghost use lib.ListN.{length, drop};
 ghost use Rattle.radix.specs.Radix.{maxCount, prod, rowMajor, digits, isWithin, isInside, In, Sizes};
 
 // The largest size, and the largest count of elements or cells.
@@ -57,24 +57,6 @@ pub fn digits_into(ds: &[u64], n: u64, out: &mut [u64])
         let d = ds[i];
         out[i] = k % d;
         k = k / d;
-    }
-}
-
-// The next point in row-major order, at the front of point: the last coordinate moves on, and one that has reached its size starts again while the one before it moves on; after the last point comes the first.
-pub fn advance(ds: &[u64], point: &mut [u64])
-    requires { ⌜ In (take (length (now ds)) (now point)) (now ds) ⌝ }
-    ensures { λ _. ⌜ In (take (length (now (ds .entry))) (now (point .exit))) (now (ds .entry)) × (rowMajor (now (ds .entry)) (take (length (now (ds .entry))) (now (point .exit))) ≡ (rowMajor (now (ds .entry)) (take (length (now (ds .entry))) (now (point .entry))) + 1) % prod (now (ds .entry))) ⌝ }
-{
-    let mut i = ds.len();
-    while 0 < i {
-        i -= 1;
-        let d = ds[i];
-        let e = point[i] + 1;
-        if e < d {
-            point[i] = e;
-            return;
-        }
-        point[i] = 0;
     }
 }
 

@@ -13,7 +13,6 @@ pub use physical::dims_into;
 pub use physical::offset_by;
 pub use physical::offset_in;
 pub use physical::physical_dims;
-pub use physical::placed;
 pub use physical::reverse_into;
 pub use row::Reach;
 pub use row::row_reach;

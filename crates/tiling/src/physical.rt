@@ -141,25 +141,24 @@ fn index_into(
     len
 }
 
-// The offset of a point, where dims is the physical shape and m the multipliers; at is room for the physical index.
-pub fn placed(
+// The offset of a point, where dims is the physical shape and m the multipliers.
+fn placed(
     sizes: &[u64],
     p: &[u64],
     lens: &[usize],
     flat: &[u64],
     dims: &[u64],
     point: &[u64],
-    at: &mut [u64],
     m: &[u64],
 ) -> u64
     requires { ⌜ AreMultipliers (now m) ⌝ }
     requires { ⌜ Ready (now sizes) (now p) (now lens) (now flat) ⌝ }
     requires { ⌜ now dims ≡ physical (now sizes) (now p) (tilesFrom (now lens) (now flat)) ⌝ }
     requires { ⌜ In (now point) (now sizes) ⌝ }
-    requires { ⌜ length (now at) ≡ maxPhysical ⌝ }
     ensures { λ r. ⌜ r ≡ offsetAt (now (sizes .entry)) (now (p .entry)) (tilesFrom (now (lens .entry)) (now (flat .entry))) (now (point .entry)) ⌝ }
 {
-    let n = index_into(point, p, lens, flat, at, m);
+    let mut at = [0u64; 24];
+    let n = index_into(point, p, lens, flat, &mut at, m);
     radix::row_major(dims, &at[..n])
 }
 
@@ -177,20 +176,10 @@ pub fn offset_at(
     requires { ⌜ In (now point) (now sizes) ⌝ }
     ensures { λ r. ⌜ r ≡ offsetAt (now (sizes .entry)) (now (p .entry)) (tilesFrom (now (lens .entry)) (now (flat .entry))) (now (point .entry)) ⌝ }
 {
-    let dims = d.at;
+    let at = d.at;
     let len = d.len;
-    let mut at = [0u64; 24];
     let none = [0u64; 1];
-    placed(
-        sizes,
-        p,
-        lens,
-        flat,
-        &dims[..len],
-        point,
-        &mut at,
-        &none[..0],
-    )
+    placed(sizes, p, lens, flat, &at[..len], point, &none[..0])
 }
 
 // The offset of element number n, where d is the physical shape.
@@ -225,6 +214,5 @@ pub fn offset_by(
     let mut point = [0u64; 6];
     radix::digits_into(sizes, n, &mut point);
     let r = sizes.len();
-    let mut at = [0u64; 24];
-    placed(sizes, p, lens, flat, dims, &point[..r], &mut at, m)
+    placed(sizes, p, lens, flat, dims, &point[..r], m)
 }
