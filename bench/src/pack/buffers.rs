@@ -60,7 +60,8 @@ impl Buffers {
         Buffers { source, cells, written, back }
     }
 
-    /// The times of packing: the library, the ordinary version over arrays and over vectors, a copy of the padded size, and reading the row.
+    /// The times of packing: the library, the ordinary version over arrays and over vectors, a copy of the padded size, reading the row, and the version over
+    /// arrays once more, to see how far the same version differs from itself.
     pub fn pack_times(&mut self, case: &Case, rounds: usize) -> Vec<Times> {
         let (row, padded) = (case.row(0), case.padded());
         let Buffers { source, cells, written, .. } = self;
@@ -73,6 +74,7 @@ impl Buffers {
                 &mut || assert_eq!(vectors_pack(black_box(case), black_box(source), &mut written.borrow_mut()), 0),
                 &mut || black_box(&mut written.borrow_mut()[..padded]).copy_from_slice(black_box(&cells[..padded])),
                 &mut || assert!(library_read(black_box(&row)) <= 1 << 20),
+                &mut || assert_eq!(ordinary_pack(black_box(case), black_box(source), &mut written.borrow_mut()), 0),
             ],
         )
     }
@@ -90,6 +92,7 @@ impl Buffers {
                 &mut || assert_eq!(vectors_unpack(black_box(case), black_box(cells), &mut back.borrow_mut()), 0),
                 &mut || black_box(&mut written[..padded]).copy_from_slice(black_box(&cells[..padded])),
                 &mut || assert!(library_read(black_box(&row)) <= 1 << 20),
+                &mut || assert_eq!(ordinary_unpack(black_box(case), black_box(cells), &mut back.borrow_mut()), 0),
             ],
         )
     }

@@ -51,7 +51,7 @@ const M: u64 = 1 << 20;
 /// Sizes, minor_to_major (empty for row-major), tiles, and whether the case is a main one.
 type Entry = (&'static [u64], &'static [usize], &'static [&'static [u64]], bool);
 
-const CASES: [Entry; 54] = [
+const CASES: [Entry; 59] = [
     (&[4096, 1024], &[], &[&[8, 128]], true),
     (&[4096, 1024], &[], &[&[8, 128], &[2, 1]], true),
     (&[4096, 1024], &[0, 1], &[&[8, 128]], true),
@@ -87,6 +87,11 @@ const CASES: [Entry; 54] = [
     (&[1], &[], &[], true),
     (&[1], &[], &[&[1]], false),
     (&[1, 1, 1, 1, 1, 1], &[2, 4, 1, 5, 3, 0], &[], true),
+    (&[2], &[], &[], true),
+    (&[4], &[], &[], false),
+    (&[6], &[], &[], false),
+    (&[2, 1, 1, 1, 1], &[0, 3, 4, 1, 2], &[], true),
+    (&[1, 2, 1, 3], &[1, 0, 3, 2], &[&[3, 13, 1, 1], &[6, 96, 1], &[3, 382]], true),
     (&[2, 3], &[], &[], false),
     (&[2, 3], &[], &[&[2]], true),
     (&[8, 8], &[], &[&[8, 8]], true),
@@ -122,7 +127,7 @@ pub fn listed(all: bool) -> Vec<Case> {
 pub struct Random(pub u64);
 
 impl Random {
-    fn below(&mut self, n: u64) -> u64 {
+    pub fn below(&mut self, n: u64) -> u64 {
         self.0 = self.0.wrapping_add(0x9e37_79b9_7f4a_7c15);
         let mut z = self.0;
         z = (z ^ (z >> 30)).wrapping_mul(0xbf58_476d_1ce4_e5b9);

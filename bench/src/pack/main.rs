@@ -53,9 +53,9 @@ fn report(case: &Case) {
     let mut buffers = Buffers::checked(case);
     for what in ["pack", "unpack"] {
         let times = if what == "pack" { buffers.pack_times(case, ROUNDS) } else { buffers.unpack_times(case, ROUNDS) };
-        let [library, plain, vectors, copy, row] = &times[..] else { unreachable!() };
+        let [library, plain, vectors, copy, row, again] = &times[..] else { unreachable!() };
         println!(
-            "| {} | {what} | {} | {} | {} | {} | {} | {:.2} | {:.2} |",
+            "| {} | {what} | {} | {} | {} | {} | {} | {:.2} | {:.2} | {} |",
             case.name(),
             library.over(plain),
             library.over(vectors),
@@ -63,7 +63,8 @@ fn report(case: &Case) {
             short(plain.best()),
             short(copy.best()),
             library.best() / copy.best(),
-            library.less(row.best()).median_over(plain)
+            library.less(row.best()).median_over(plain),
+            again.over(plain)
         );
     }
 }
@@ -97,8 +98,8 @@ fn main() {
             listed(false).for_each(|c| report_plain(&c));
         }
         word => {
-            println!("| case | call | library / ordinary | library / ordinary over vectors | library | ordinary | copy | library / copy | without the row |");
-            println!("|---|---|---|---|---|---|---|---|---|");
+            println!("| case | call | library / ordinary | library / ordinary over vectors | library | ordinary | copy | library / copy | without the row | ordinary / itself |");
+            println!("|---|---|---|---|---|---|---|---|---|---|");
             listed(word != "list").for_each(|c| report(&c));
         }
     }

@@ -1,4 +1,5 @@
 // Times in turn, and their ratios round by round.
+use crate::cases::Random;
 use crate::clock::thread_seconds;
 
 /// The seconds of a call in each round.
@@ -52,14 +53,20 @@ fn calls(run: &mut dyn FnMut()) -> usize {
     calls
 }
 
-/// The times of several versions, each once in every round. Each is called once before it is timed, so that none starts from what another one left in the caches.
+/// The times of several versions, each once in every round, in an order that changes from round to round. Each is called once before it is timed, so that
+/// none starts from what another one left in the caches.
 pub fn in_turn(rounds: usize, runs: &mut [&mut dyn FnMut()]) -> Vec<Times> {
     let calls: Vec<usize> = runs.iter_mut().map(|run| calls(*run)).collect();
     let mut times: Vec<Times> = runs.iter().map(|_| Times(Vec::new())).collect();
+    let mut order: Vec<usize> = (0..runs.len()).collect();
+    let mut random = Random(rounds as u64);
     for _ in 0..rounds {
-        for (k, run) in runs.iter_mut().enumerate() {
-            run();
-            times[k].0.push(block(*run, calls[k]) / calls[k] as f64);
+        for k in (1..order.len()).rev() {
+            order.swap(k, random.below(k as u64 + 1) as usize);
+        }
+        for &k in &order {
+            runs[k]();
+            times[k].0.push(block(runs[k], calls[k]) / calls[k] as f64);
         }
     }
     times

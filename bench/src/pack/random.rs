@@ -17,28 +17,30 @@ impl Ratio {
     }
 }
 
-/// A case by its name and number of elements, with its ratios to the version over arrays and to the one over vectors.
+/// A case by its name and number of elements, with its ratios to the version over arrays, to the one over vectors, and of the version over arrays to itself.
 struct Found {
     name: String,
     elements: usize,
-    ratios: [Ratio; 2],
+    ratios: [Ratio; 3],
 }
 
-fn ratios(times: &[Times]) -> [Ratio; 2] {
-    let [library, arrays, vectors, _, row] = times else { unreachable!() };
+fn ratios(times: &[Times]) -> [Ratio; 3] {
+    let [library, arrays, vectors, _, row, again] = times else { unreachable!() };
     let less = library.less(row.best());
-    [arrays, vectors].map(|version| Ratio { whole: library.median_over(version), less: less.median_over(version) })
+    let over = |version: &Times| Ratio { whole: library.median_over(version), less: less.median_over(version) };
+    let itself = again.median_over(arrays);
+    [over(arrays), over(vectors), Ratio { whole: itself, less: itself }]
 }
 
-/// The larger of the ratios of packing and unpacking, to each version; measured again with all rounds where the first few are near 1 or above.
-fn worst_ratios(case: &Case) -> [Ratio; 2] {
+/// The larger of the ratios of packing and unpacking, of each kind; measured again with all rounds where the first few are near 1 or above.
+fn worst_ratios(case: &Case) -> [Ratio; 3] {
     let mut buffers = Buffers::checked(case);
     let mut measured = |rounds| {
         let (pack, unpack) = (ratios(&buffers.pack_times(case, rounds)), ratios(&buffers.unpack_times(case, rounds)));
-        [pack[0].max(unpack[0]), pack[1].max(unpack[1])]
+        [0, 1, 2].map(|k| pack[k].max(unpack[k]))
     };
     let first = measured(3);
-    if first.iter().all(|r| r.whole < 0.8) {
+    if first[..2].iter().all(|r| r.whole < 0.8) {
         return first;
     }
     measured(ROUNDS)
@@ -68,4 +70,5 @@ pub fn report(seed: u64, count: usize, case: fn(&mut Random) -> Case) {
     println!("seed {seed}: {count} cases, {} with fewer than 32 elements", found.iter().filter(|f| f.elements < 32).count());
     report_against("arrays", 0, &mut found);
     report_against("vectors", 1, &mut found);
+    report_against("arrays, the version over arrays itself", 2, &mut found);
 }
