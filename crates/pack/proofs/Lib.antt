@@ -1,5 +1,6 @@
 pub mod Packing
 pub mod Walking
+pub mod Copying
 pub mod Tables
 pub mod Cuts
 pub mod Rules

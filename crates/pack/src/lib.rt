@@ -2,6 +2,8 @@
 mod cut;
 mod loops;
 mod rows;
+mod runs;
+mod table;
 
 use layout::Layout;
 use layout::parts;

@@ -1,5 +1,7 @@
 // The loops over the elements, from the lists of a shape and a layout. Inner functions.
 use super::rows;
+use super::runs;
+use super::table;
 ghost use mathlib.Core.Path.{_≡_};
 ghost use mathlib.Core.List.{_++_};
 ghost use Prim.Native.Nat.{_≤_};
@@ -170,8 +172,8 @@ fn pack_by_table(
     let mut table = [0u64; 64];
     let none = [0u64; 1];
     let n = count as usize;
-    rows::offsets_into(sizes, p, lens, flat, dims, n, &mut table, &none[..0]);
-    rows::scatter(source, 0, &table[..n], 0, cells);
+    table::offsets_into(sizes, p, lens, flat, dims, n, &mut table, &none[..0]);
+    runs::scatter(source, 0, &table[..n], 0, cells);
 }
 
 // Unpacks along a table of the offsets of all elements.
@@ -194,8 +196,8 @@ fn unpack_by_table(
     let mut table = [0u64; 64];
     let none = [0u64; 1];
     let n = count as usize;
-    rows::offsets_into(sizes, p, lens, flat, dims, n, &mut table, &none[..0]);
-    rows::gather(cells, &table[..n], 0, 0, destination);
+    table::offsets_into(sizes, p, lens, flat, dims, n, &mut table, &none[..0]);
+    runs::gather(cells, &table[..n], 0, 0, destination);
 }
 
 // Every element to its cell: the only one to cell 0, few along a table of all their offsets, more of them in rows.

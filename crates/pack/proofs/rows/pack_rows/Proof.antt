@@ -13,27 +13,31 @@ use Rattle.tiling.proofs.OwnCells.{Valid, offset-below}
 use Rattle.tiling.proofs.Shaped.{shaped-valid}
 use Rattle.pack.specs.Rows.{Stored, scattered, IsCut, offsetsFrom}
 use Rattle.pack.proofs.Cuts.{step-below, steps-below, row-table, table-length}
+use Rattle.pack.proofs.Copying.{runs-take}
 use Rattle.pack.proofs.Walking.{store-none, store-row}
 use Rattle.pack.proofs.rows.pack_rows.Statement.{statement}
 use Rattle.pack.proofs.rows.pack_rows.Tie as tie
 
 abbrev Inv-loop : tie.InvT-loop
-Inv-loop sizes p lens flat dims g table source cells₀ m steps span q₀ cells q = (q ≤ g .steps) × (length cells ≡ length cells₀) × Stored sizes p (tilesFrom lens flat) source (q * g .span) cells₀ cells
+Inv-loop sizes p lens flat dims g table source cells₀ m steps span run q₀ cells q = (q ≤ g .steps) × (length cells ≡ length cells₀) × Stored sizes p (tilesFrom lens flat) source (q * g .span) cells₀ cells
 
 abbrev μ-loop : tie.MeasureT-loop
-μ-loop sizes p lens flat dims g table source cells₀ m steps span q₀ cells q = g .steps - q
+μ-loop sizes p lens flat dims g table source cells₀ m steps span run q₀ cells q = g .steps - q
 
 abbrev start : tie.At-loop Inv-loop μ-loop → tie.Start Inv-loop μ-loop
-start c = c .before .before .before .before .before .before .before .before .before .before
+start c = c .before .before .before .before .before .before .before .before .before .before .before
 
 abbrev Tss : tie.Start Inv-loop μ-loop → List (List ℕ)
 Tss s = tilesFrom (now (s .args .lens)) (now (s .args .flat))
 
 loop-holds : tie.Need-loop-holds Inv-loop μ-loop
 loop-holds c =
-    let s = c .before .before .before .before .before .before .before .before .before in
+    let s = c .before .before .before .before .before .before .before .before .before .before in
     let cells = now (s .args .cells) in
     (search needs, refl, subst (λ (n : ℕ). Stored (now (s .args .sizes)) (now (s .args .p)) (Tss s) (now (s .args .source)) n cells cells) (sym (zero-mul (s .args .g .span))) (store-none (now (s .args .sizes)) (now (s .args .p)) (Tss s) (now (s .args .source)) cells))
+
+run-length-requires : tie.Need-run-length-requires Inv-loop μ-loop
+run-length-requires c κs = search needs
 
 row-steps-requires : tie.Need-row-steps-requires Inv-loop μ-loop
 row-steps-requires c κs = let s = start (c .before) in (s .pre .0, (s .pre .1 .0, (s .pre .1 .1 .1 .1 .0, c .loop-test .taken)))
@@ -87,8 +91,8 @@ long c =
     let s = start (i .before) in
     ap length (part c) ∙ table-length (now (s .args .sizes)) (now (s .args .p)) (Tss s) (valid i) (s .pre .1 .0 .shaped .small) (s .args .g) (cut i) (Q i) (R c) (c .row-steps .ensures)
 
-slice-aggregate-scatter : tie.Need-slice-aggregate-scatter Inv-loop μ-loop
-slice-aggregate-scatter c = sym (long (c .before .before))
+slice-aggregate-store-row : tie.Need-slice-aggregate-store-row Inv-loop μ-loop
+slice-aggregate-store-row c = sym (long (c .before .before))
 
 -- the cell of a place of the row
 same : (c : tie.After-offset-by Inv-loop μ-loop) (j : ℕ) → j < length (Part (c .before))
@@ -101,14 +105,15 @@ same c j l =
     ∙ ap (λ (x : List ℕ). offset (now (s .args .sizes)) (now (s .args .p)) (Tss s) (Q i * Span i) + getD x j 0) (part r)
     ∙ row-table (now (s .args .sizes)) (now (s .args .p)) (Tss s) (valid i) (s .pre .1 .0 .shaped .small) (s .args .g) (cut i) (Q i) (R r) (r .row-steps .ensures) j (omega (arith, long r, l))
 
-scatter-requires : tie.Need-scatter-requires Inv-loop μ-loop
-scatter-requires c κs =
+store-row-requires : tie.Need-store-row-requires Inv-loop μ-loop
+store-row-requires c κs =
     let o = c .before .before in
     let r = o .before in
     let i = r .before in
-    let s = start (i .before) in (
-      omega (arith, room r, long r, s .pre .1 .1 .1 .0 .0),
-      λ j l. omega (arith, same o j l, offset-below (now (s .args .sizes)) (now (s .args .p)) (Tss s) (valid i) (Q i * Span i + j) (omega (arith, room r, long r, l)), s .pre .1 .1 .1 .0 .1, i .before .loop .inv .1),
+    let s = start (i .before) in
+    let w = i .before .before .run-length in (
+      (omega (arith, room r, long r, s .pre .1 .1 .1 .0 .0), λ j l. omega (arith, same o j l, offset-below (now (s .args .sizes)) (now (s .args .p)) (Tss s) (valid i) (Q i * Span i + j) (omega (arith, room r, long r, l)), s .pre .1 .1 .1 .0 .1, i .before .loop .inv .1)),
+      (w .ensures .0, runs-take (w .result) (R r * Span i) (now (s .args .table)) (w .ensures .1)),
     )
 
 add-q : tie.Need-add-q Inv-loop μ-loop
@@ -133,8 +138,8 @@ loop-again c =
     let n : Q i * Span i + length (Part r) ≡ (Q i + R r) * Span i = omega (arith, long r, add-mul (Q i) (R r) (Span i)) in
     let e = store-row (now (s .args .sizes)) (now (s .args .p)) (Tss s) (now (s .args .source)) cells (valid i) (o .offset-by .result) (Part r) (Q i * Span i) (l .loop .cells) (omega (arith, room r, long r)) (s .pre .1 .1 .1 .0 .1) (same o) (l .loop .inv .1, l .loop .inv .2) in (
       r .row-steps .ensures .inside,
-      k .scatter .kept .1 .1 .1 .1 .0 ∙ l .loop .inv .1,
-      subst (λ (x : List ℕ). Stored (now (s .args .sizes)) (now (s .args .p)) (Tss s) (now (s .args .source)) ((Q i + R r) * Span i) cells x) (sym (k .scatter .ensures))
+      k .store-row .kept .1 .1 .1 .1 .1 .0 ∙ l .loop .inv .1,
+      subst (λ (x : List ℕ). Stored (now (s .args .sizes)) (now (s .args .p)) (Tss s) (now (s .args .source)) ((Q i + R r) * Span i) cells x) (sym (k .store-row .ensures))
           (subst (λ (x : ℕ). Stored (now (s .args .sizes)) (now (s .args .p)) (Tss s) (now (s .args .source)) x cells (scattered (now (s .args .source)) (o .offset-by .result) (Part r) (Q i * Span i) (l .loop .cells))) n (e .1)),
     )
 
@@ -155,13 +160,14 @@ pack-rows-spec =
     (tie.spec
     Inv-loop
     μ-loop
+    run-length-requires
     loop-holds
     row-steps-requires
     mul-n
     offset-by-requires
     mul-len
-    slice-aggregate-scatter
-    scatter-requires
+    slice-aggregate-store-row
+    store-row-requires
     add-q
     loop-less
     loop-again

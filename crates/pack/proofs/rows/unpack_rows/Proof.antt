@@ -13,27 +13,31 @@ use Rattle.tiling.proofs.OwnCells.{Valid, offset-below}
 use Rattle.tiling.proofs.Shaped.{shaped-valid}
 use Rattle.pack.specs.Rows.{Loaded, gathered, IsCut, offsetsFrom}
 use Rattle.pack.proofs.Cuts.{step-below, steps-below, row-table, table-length}
+use Rattle.pack.proofs.Copying.{runs-take}
 use Rattle.pack.proofs.Walking.{load-none, load-row}
 use Rattle.pack.proofs.rows.unpack_rows.Statement.{statement}
 use Rattle.pack.proofs.rows.unpack_rows.Tie as tie
 
 abbrev Inv-loop : tie.InvT-loop
-Inv-loop sizes p lens flat dims g table cells destination₀ m steps span q₀ destination q = (q ≤ g .steps) × (length destination ≡ length destination₀) × Loaded sizes p (tilesFrom lens flat) cells (q * g .span) destination₀ destination
+Inv-loop sizes p lens flat dims g table cells destination₀ m steps span run q₀ destination q = (q ≤ g .steps) × (length destination ≡ length destination₀) × Loaded sizes p (tilesFrom lens flat) cells (q * g .span) destination₀ destination
 
 abbrev μ-loop : tie.MeasureT-loop
-μ-loop sizes p lens flat dims g table cells destination₀ m steps span q₀ destination q = g .steps - q
+μ-loop sizes p lens flat dims g table cells destination₀ m steps span run q₀ destination q = g .steps - q
 
 abbrev start : tie.At-loop Inv-loop μ-loop → tie.Start Inv-loop μ-loop
-start c = c .before .before .before .before .before .before .before .before .before .before
+start c = c .before .before .before .before .before .before .before .before .before .before .before
 
 abbrev Tss : tie.Start Inv-loop μ-loop → List (List ℕ)
 Tss s = tilesFrom (now (s .args .lens)) (now (s .args .flat))
 
 loop-holds : tie.Need-loop-holds Inv-loop μ-loop
 loop-holds c =
-    let s = c .before .before .before .before .before .before .before .before .before in
+    let s = c .before .before .before .before .before .before .before .before .before .before in
     let destination = now (s .args .destination) in
     (search needs, refl, subst (λ (n : ℕ). Loaded (now (s .args .sizes)) (now (s .args .p)) (Tss s) (now (s .args .cells)) n destination destination) (sym (zero-mul (s .args .g .span))) (load-none (now (s .args .sizes)) (now (s .args .p)) (Tss s) (now (s .args .cells)) destination))
+
+run-length-requires : tie.Need-run-length-requires Inv-loop μ-loop
+run-length-requires c κs = search needs
 
 row-steps-requires : tie.Need-row-steps-requires Inv-loop μ-loop
 row-steps-requires c κs = let s = start (c .before) in (s .pre .0, (s .pre .1 .0, (s .pre .1 .1 .1 .1 .0, c .loop-test .taken)))
@@ -87,8 +91,8 @@ long c =
     let s = start (i .before) in
     ap length (part c) ∙ table-length (now (s .args .sizes)) (now (s .args .p)) (Tss s) (valid i) (s .pre .1 .0 .shaped .small) (s .args .g) (cut i) (Q i) (R c) (c .row-steps .ensures)
 
-slice-aggregate-gather : tie.Need-slice-aggregate-gather Inv-loop μ-loop
-slice-aggregate-gather c = sym (long (c .before .before))
+slice-aggregate-load-row : tie.Need-slice-aggregate-load-row Inv-loop μ-loop
+slice-aggregate-load-row c = sym (long (c .before .before))
 
 -- the cell of a place of the row
 same : (c : tie.After-offset-by Inv-loop μ-loop) (j : ℕ) → j < length (Part (c .before))
@@ -101,14 +105,15 @@ same c j l =
     ∙ ap (λ (x : List ℕ). offset (now (s .args .sizes)) (now (s .args .p)) (Tss s) (Q i * Span i) + getD x j 0) (part r)
     ∙ row-table (now (s .args .sizes)) (now (s .args .p)) (Tss s) (valid i) (s .pre .1 .0 .shaped .small) (s .args .g) (cut i) (Q i) (R r) (r .row-steps .ensures) j (omega (arith, long r, l))
 
-gather-requires : tie.Need-gather-requires Inv-loop μ-loop
-gather-requires c κs =
+load-row-requires : tie.Need-load-row-requires Inv-loop μ-loop
+load-row-requires c κs =
     let o = c .before .before in
     let r = o .before in
     let i = r .before in
-    let s = start (i .before) in (
-      omega (arith, room r, long r, s .pre .1 .1 .1 .0 .0, i .before .loop .inv .1),
-      λ j l. omega (arith, same o j l, offset-below (now (s .args .sizes)) (now (s .args .p)) (Tss s) (valid i) (Q i * Span i + j) (omega (arith, room r, long r, l)), s .pre .1 .1 .1 .0 .1),
+    let s = start (i .before) in
+    let w = i .before .before .run-length in (
+      (omega (arith, room r, long r, s .pre .1 .1 .1 .0 .0, i .before .loop .inv .1), λ j l. omega (arith, same o j l, offset-below (now (s .args .sizes)) (now (s .args .p)) (Tss s) (valid i) (Q i * Span i + j) (omega (arith, room r, long r, l)), s .pre .1 .1 .1 .0 .1)),
+      (w .ensures .0, runs-take (w .result) (R r * Span i) (now (s .args .table)) (w .ensures .1)),
     )
 
 add-q : tie.Need-add-q Inv-loop μ-loop
@@ -133,8 +138,8 @@ loop-again c =
     let n : Q i * Span i + length (Part r) ≡ (Q i + R r) * Span i = omega (arith, long r, add-mul (Q i) (R r) (Span i)) in
     let e = load-row (now (s .args .sizes)) (now (s .args .p)) (Tss s) (now (s .args .cells)) destination (o .offset-by .result) (Part r) (Q i * Span i) (l .loop .destination) (omega (arith, room r, long r, s .pre .1 .1 .1 .0 .0)) (same o) (l .loop .inv .1, l .loop .inv .2) in (
       r .row-steps .ensures .inside,
-      k .gather .kept .1 .1 .1 .1 .0 ∙ l .loop .inv .1,
-      subst (λ (x : List ℕ). Loaded (now (s .args .sizes)) (now (s .args .p)) (Tss s) (now (s .args .cells)) ((Q i + R r) * Span i) destination x) (sym (k .gather .ensures))
+      k .load-row .kept .1 .1 .1 .1 .1 .0 ∙ l .loop .inv .1,
+      subst (λ (x : List ℕ). Loaded (now (s .args .sizes)) (now (s .args .p)) (Tss s) (now (s .args .cells)) ((Q i + R r) * Span i) destination x) (sym (k .load-row .ensures))
           (subst (λ (x : ℕ). Loaded (now (s .args .sizes)) (now (s .args .p)) (Tss s) (now (s .args .cells)) x destination (gathered (now (s .args .cells)) (o .offset-by .result) (Part r) (Q i * Span i) (l .loop .destination))) n (e .1)),
     )
 
@@ -155,13 +160,14 @@ unpack-rows-spec =
     (tie.spec
     Inv-loop
     μ-loop
+    run-length-requires
     loop-holds
     row-steps-requires
     mul-n
     offset-by-requires
     mul-len
-    slice-aggregate-gather
-    gather-requires
+    slice-aggregate-load-row
+    load-row-requires
     add-q
     loop-less
     loop-again

@@ -1,4 +1,4 @@
--- `pack::rows::gather` meets its contract. The invariant: what is left of the table makes of the places what the whole table makes of the first ones. Assumes nothing.
+-- `pack::runs::gather` meets its contract. The invariant: what is left of the table makes of the places what the whole table makes of the first ones. Assumes nothing.
 use borrow.Author.Needs.{needs}
 use mathlib.Core.Path.{_≡_, refl, sym, ap, _∙_}
 use mathlib.Core.List.{List}
@@ -9,8 +9,8 @@ use denote.Ref.{now}
 use lib.ListN.{length, getD, set, drop, drop-of-length-le, length-set}
 use Rattle.pack.specs.Rows.{gathered}
 use Rattle.pack.proofs.Walking.{walk-next}
-use Rattle.pack.proofs.rows.gather.Statement.{statement}
-use Rattle.pack.proofs.rows.gather.Tie as tie
+use Rattle.pack.proofs.runs.gather.Statement.{statement}
+use Rattle.pack.proofs.runs.gather.Tie as tie
 
 abbrev Inv-loop : tie.InvT-loop
 Inv-loop cells table base a destination₀ j₀ destination j = (j ≤ length table) × (length destination ≡ length destination₀) × (gathered cells base (drop j table) (a + j) destination ≡ gathered cells base table a destination₀)

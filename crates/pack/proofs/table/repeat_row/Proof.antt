@@ -1,4 +1,4 @@
--- `pack::rows::repeat_row` meets its contract. The invariant: the first j entries are repeated. Assumes nothing.
+-- `pack::table::repeat_row` meets its contract. The invariant: the first j entries are repeated. Assumes nothing.
 use borrow.Author.Needs.{needs}
 use mathlib.Core.Path.{_≡_, refl, sym, ap, _∙_, subst}
 use Prim.Native.Nat.{ℕ, _+_, _-_, _<_, _≤_, _^_}
@@ -8,8 +8,8 @@ use lib.ListN.{length, getD, take, length-set}
 use lib.Seq.{getD-take, length-take-le}
 use Rattle.pack.specs.Rows.{Repeated}
 use Rattle.pack.proofs.Tables.{repeat-none, repeat-next}
-use Rattle.pack.proofs.rows.repeat_row.Statement.{statement}
-use Rattle.pack.proofs.rows.repeat_row.Tie as tie
+use Rattle.pack.proofs.table.repeat_row.Statement.{statement}
+use Rattle.pack.proofs.table.repeat_row.Tie as tie
 
 abbrev Inv-loop : tie.InvT-loop
 Inv-loop table₀ a len base j₀ table j = (j ≤ len) × (length table ≡ length table₀) × Repeated base a j table₀ table

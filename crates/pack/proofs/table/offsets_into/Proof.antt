@@ -1,4 +1,4 @@
--- `pack::rows::offsets_into` meets its contract. The invariant: the table has the offsets of the elements that differ in the dimensions from k on only. Assumes nothing.
+-- `pack::table::offsets_into` meets its contract. The invariant: the table has the offsets of the elements that differ in the dimensions from k on only. Assumes nothing.
 use borrow.Author.Needs.{needs}
 use mathlib.Core.Path.{_≡_, refl, sym, ap, _∙_, subst}
 use mathlib.Core.List.{List}
@@ -11,8 +11,8 @@ use Rattle.radix.specs.Radix.{prod, Bounded}
 use Rattle.tiling.specs.Tile.{tilesFrom}
 use Rattle.pack.specs.Rows.{HasOffsets, IsSpan}
 use Rattle.pack.proofs.Tables.{table-first, table-full, before-all, before-size, before-room, before-at, before-span}
-use Rattle.pack.proofs.rows.offsets_into.Statement.{statement}
-use Rattle.pack.proofs.rows.offsets_into.Tie as tie
+use Rattle.pack.proofs.table.offsets_into.Statement.{statement}
+use Rattle.pack.proofs.table.offsets_into.Tie as tie
 
 abbrev Inv-loop : tie.InvT-loop
 Inv-loop sizes p lens flat dims n table₀ m count span₀ k₀ table span k = (k ≤ length sizes) × (span ≡ prod (drop k sizes)) × (length table ≡ length table₀) × HasOffsets sizes p (tilesFrom lens flat) span n table

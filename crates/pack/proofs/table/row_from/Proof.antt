@@ -1,4 +1,4 @@
--- `pack::rows::row_from` meets its contract. Assumes nothing.
+-- `pack::table::row_from` meets its contract. Assumes nothing.
 use borrow.Author.Needs.{needs}
 use mathlib.Core.Path.{_≡_, sym, ap, _∙_, subst}
 use mathlib.Core.List.{List}
@@ -10,8 +10,8 @@ use Rattle.radix.specs.Radix.{maxCount, prod, Sizes}
 use Rattle.tiling.specs.Tile.{tilesFrom, physical, offset}
 use Rattle.tiling.specs.declared.row.Reach.{Reach}
 use Rattle.pack.proofs.Tables.{coordinate-room, FirstOf, first-of}
-use Rattle.pack.proofs.rows.row_from.Statement.{statement}
-use Rattle.pack.proofs.rows.row_from.Tie as tie
+use Rattle.pack.proofs.table.row_from.Statement.{statement}
+use Rattle.pack.proofs.table.row_from.Tie as tie
 
 row-reach-requires : tie.Need-row-reach-requires
 row-reach-requires c κs =

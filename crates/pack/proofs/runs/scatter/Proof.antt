@@ -1,4 +1,4 @@
--- `pack::rows::scatter` meets its contract. The invariant: what is left of the table makes of the cells what the whole table makes of the first ones. Assumes nothing.
+-- `pack::runs::scatter` meets its contract. The invariant: what is left of the table makes of the cells what the whole table makes of the first ones. Assumes nothing.
 use borrow.Author.Needs.{needs}
 use mathlib.Core.Path.{_≡_, refl, sym, ap, _∙_}
 use mathlib.Core.List.{List}
@@ -9,8 +9,8 @@ use denote.Ref.{now}
 use lib.ListN.{length, getD, set, drop, drop-of-length-le, length-set}
 use Rattle.pack.specs.Rows.{scattered}
 use Rattle.pack.proofs.Walking.{walk-next}
-use Rattle.pack.proofs.rows.scatter.Statement.{statement}
-use Rattle.pack.proofs.rows.scatter.Tie as tie
+use Rattle.pack.proofs.runs.scatter.Statement.{statement}
+use Rattle.pack.proofs.runs.scatter.Tie as tie
 
 abbrev Inv-loop : tie.InvT-loop
 Inv-loop source a table base cells₀ j₀ cells j = (j ≤ length table) × (length cells ≡ length cells₀) × (scattered source base (drop j table) (a + j) cells ≡ scattered source base table a cells₀)

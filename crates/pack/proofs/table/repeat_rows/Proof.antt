@@ -1,4 +1,4 @@
--- `pack::rows::repeat_rows` meets its contract. The invariant: the table has the offsets of the first x coordinates. Assumes nothing.
+-- `pack::table::repeat_rows` meets its contract. The invariant: the table has the offsets of the first x coordinates. Assumes nothing.
 use borrow.Author.Needs.{needs}
 use mathlib.Core.Path.{_≡_, refl, sym, _∙_, subst}
 use mathlib.Core.Logic.{⊎-elim}
@@ -13,8 +13,8 @@ use Rattle.tiling.specs.Tile.{tilesFrom}
 use Rattle.tiling.proofs.Shaped.{shaped-valid}
 use Rattle.pack.specs.Rows.{HasOffsets, IsSpan}
 use Rattle.pack.proofs.Tables.{NextRow, span-inside, span-room, coordinate-room, next-row, row-reaches, row-more}
-use Rattle.pack.proofs.rows.repeat_rows.Statement.{statement}
-use Rattle.pack.proofs.rows.repeat_rows.Tie as tie
+use Rattle.pack.proofs.table.repeat_rows.Statement.{statement}
+use Rattle.pack.proofs.table.repeat_rows.Tie as tie
 
 abbrev Inv-loop : tie.InvT-loop
 Inv-loop sizes p lens flat dims place span n table₀ m dimension size x₀ table x =
