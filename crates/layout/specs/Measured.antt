@@ -13,9 +13,9 @@ use Rattle.layout.specs.declared.parts.Extent.{Extent}
 
 -- the arrays of a layout's parts, and two to write, have their lengths
 pub record Lengths (m lens flat out dims : List ℕ) : Type 0 where
-  pub six : length m ≡ maxRank
-  pub three : length lens ≡ maxTiles
-  pub tile : length flat ≡ maxEntries * maxTiles
+  pub minor : length m ≡ maxRank
+  pub tiles : length lens ≡ maxTiles
+  pub entries : length flat ≡ maxEntries * maxTiles
   pub order : length out ≡ maxRank
   pub shape : length dims ≡ maxPhysical
 

@@ -28,7 +28,7 @@ abbrev L : tie.Start → Layout
 L s = layoutFrom (s .args .rank) (now (s .args .m)) (s .args .tiles) (now (s .args .lens)) (now (s .args .flat))
 
 arrays : (s : tie.Start) → Arrays (L s)
-arrays s = record { order = s .pre .six; lens = s .pre .three; tile = s .pre .tile }
+arrays s = record { order = s .pre .minor; lens = s .pre .tiles; tile = s .pre .entries }
 
 good-shape-requires : tie.Need-good-shape-requires
 good-shape-requires c κs = search needs
@@ -46,7 +46,7 @@ shape-kept : (e : tie.Else1) → goodShape (start (e .before) .args .shape) ≡ 
 shape-kept e = sym (e .before .good-shape .ensures) ∙ not-false (e .before .good-shape .result) (e .if1 .left)
 
 good-parts-requires : tie.Need-good-parts-requires
-good-parts-requires c κs = let s = start (c .before) in (s .pre .six, s .pre .three, s .pre .tile)
+good-parts-requires c κs = let s = start (c .before) in (s .pre .minor, s .pre .tiles, s .pre .entries)
 
 unmeasured-requires-2 : tie.Need-unmeasured-requires-2
 unmeasured-requires-2 c κs = search needs
