@@ -51,7 +51,7 @@ const M: u64 = 1 << 20;
 /// Sizes, minor_to_major (empty for row-major), tiles, and whether the case is a main one.
 type Entry = (&'static [u64], &'static [usize], &'static [&'static [u64]], bool);
 
-const CASES: [Entry; 59] = [
+const CASES: [Entry; 61] = [
     (&[4096, 1024], &[], &[&[8, 128]], true),
     (&[4096, 1024], &[], &[&[8, 128], &[2, 1]], true),
     (&[4096, 1024], &[0, 1], &[&[8, 128]], true),
@@ -92,6 +92,8 @@ const CASES: [Entry; 59] = [
     (&[6], &[], &[], false),
     (&[2, 1, 1, 1, 1], &[0, 3, 4, 1, 2], &[], true),
     (&[1, 2, 1, 3], &[1, 0, 3, 2], &[&[3, 13, 1, 1], &[6, 96, 1], &[3, 382]], true),
+    (&[3], &[], &[&[7], &[1, 296], &[16, 1, 4, 31]], true),
+    (&[1, 1, 1, 1, 2], &[3, 1, 4, 0, 2], &[&[85, 79]], false),
     (&[2, 3], &[], &[], false),
     (&[2, 3], &[], &[&[2]], true),
     (&[8, 8], &[], &[&[8, 8]], true),
