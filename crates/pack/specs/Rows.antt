@@ -1,7 +1,7 @@
 -- Packing and unpacking in rows: what the buffers hold with the first elements done, the walk along a table of offsets, and the cut. Assumes nothing.
 use Prim.Native.Nat.{ℕ, suc, _+_, _*_, _<_, _≤_}
 use mathlib.Core.Path.{_≡_}
-use mathlib.Core.Bool.{cond}
+use mathlib.Core.Bool.{Bool, true, false, cond}
 use mathlib.Core.List.{List, [], _∷_, _++_}
 use lib.Dec.{ltb}
 use lib.ListN.{length, getD, set, drop, replicate}
@@ -25,6 +25,16 @@ Stored sizes p tss source n before after = (k : ℕ) → getD after k 0 ≡ putA
 -- the first n elements are loaded, and nothing else changes
 abbrev pub Loaded : List ℕ → List ℕ → List (List ℕ) → List ℕ → ℕ → List ℕ → List ℕ → Type 0
 Loaded sizes p tss cells n before after = (k : ℕ) → getD after k 0 ≡ cond (ltb k n) (getD cells (offset sizes p tss k) 0) (getD before k 0)
+
+-- one list has room for the elements and the other for the cells: packing goes from elements to cells, unpacking back
+abbrev pub HasRoom : Bool → List ℕ → List ℕ → List (List ℕ) → List ℕ → List ℕ → Type 0
+HasRoom true sizes p tss from to = (prod sizes ≤ length from) × (padded sizes p tss ≤ length to)
+HasRoom false sizes p tss from to = (prod sizes ≤ length to) × (padded sizes p tss ≤ length from)
+
+-- all elements are stored, in packing, or loaded, and nothing else changes
+abbrev pub Carried : Bool → List ℕ → List ℕ → List (List ℕ) → List ℕ → List ℕ → List ℕ → Type 0
+Carried true sizes p tss from before after = Stored sizes p tss from (prod sizes) before after
+Carried false sizes p tss from before after = Loaded sizes p tss from (prod sizes) before after
 
 -- what packing starts from: 0 in the first size cells, where there are fewer elements than cells
 abbrev pub startOf : ℕ → ℕ → List ℕ → List ℕ

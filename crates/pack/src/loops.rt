@@ -10,7 +10,7 @@ ghost use Rattle.radix.specs.Radix.{prod};
 ghost use Rattle.tiling.specs.Tile.{tilesFrom, padded, physical};
 ghost use Rattle.tiling.specs.Ready.{Ready};
 ghost use Rattle.pack.specs.Pack.{packed, unpacked};
-ghost use Rattle.pack.specs.Rows.{Stored, Loaded, startOf};
+ghost use Rattle.pack.specs.Rows.{Stored, Loaded, HasRoom, Carried, startOf};
 
 // Fewer elements than this go along a table of all their offsets.
 const FEW: u64 = 64;
@@ -40,116 +40,55 @@ fn clear_padding(cells: &mut [u32], count: u64, size: u64)
     }
 }
 
-// Packs with a short table, dividing plainly.
-fn pack_few(
+// Packs or unpacks in rows with a short table, dividing plainly.
+fn in_short_rows(
+    packs: bool,
     sizes: &[u64],
     p: &[u64],
     lens: &[usize],
     flat: &[u64],
     dims: &[u64],
-    source: &[u32],
-    cells: &mut [u32],
+    from: &[u32],
+    to: &mut [u32],
 )
     requires { ⌜ Ready (now sizes) (now p) (now lens) (now flat) ⌝ }
     requires { ⌜ now dims ≡ physical (now sizes) (now p) (tilesFrom (now lens) (now flat)) ⌝ }
-    requires { ⌜ (prod (now sizes) ≤ length (now source)) × (padded (now sizes) (now p) (tilesFrom (now lens) (now flat)) ≤ length (now cells)) ⌝ }
-    ensures { λ _. ⌜ Stored (now (sizes .entry)) (now (p .entry)) (tilesFrom (now (lens .entry)) (now (flat .entry))) (now (source .entry)) (prod (now (sizes .entry))) (now (cells .entry)) (now (cells .exit)) ⌝ }
+    requires { ⌜ HasRoom packs (now sizes) (now p) (tilesFrom (now lens) (now flat)) (now from) (now to) ⌝ }
+    ensures { λ _. ⌜ Carried packs (now (sizes .entry)) (now (p .entry)) (tilesFrom (now (lens .entry)) (now (flat .entry))) (now (from .entry)) (now (to .entry)) (now (to .exit)) ⌝ }
 {
     let mut table = [0u64; 64];
     let none = [0u64; 1];
-    rows::pack_with(
-        sizes,
-        p,
-        lens,
-        flat,
-        dims,
-        &mut table,
-        source,
-        cells,
-        &none[..0],
-    );
+    if packs {
+        rows::pack_with(sizes, p, lens, flat, dims, &mut table, from, to, &none[..0]);
+    } else {
+        rows::unpack_with(sizes, p, lens, flat, dims, &mut table, from, to, &none[..0]);
+    }
 }
 
-// Unpacks with a short table, dividing plainly.
-fn unpack_few(
+// Packs or unpacks in rows with a table of 1,024 offsets, dividing by the multipliers. One function for both, so that neither call has its arrays in its own frame.
+fn in_long_rows(
+    packs: bool,
     sizes: &[u64],
     p: &[u64],
     lens: &[usize],
     flat: &[u64],
     dims: &[u64],
-    cells: &[u32],
-    destination: &mut [u32],
+    from: &[u32],
+    to: &mut [u32],
 )
     requires { ⌜ Ready (now sizes) (now p) (now lens) (now flat) ⌝ }
     requires { ⌜ now dims ≡ physical (now sizes) (now p) (tilesFrom (now lens) (now flat)) ⌝ }
-    requires { ⌜ (prod (now sizes) ≤ length (now destination)) × (padded (now sizes) (now p) (tilesFrom (now lens) (now flat)) ≤ length (now cells)) ⌝ }
-    ensures { λ _. ⌜ Loaded (now (sizes .entry)) (now (p .entry)) (tilesFrom (now (lens .entry)) (now (flat .entry))) (now (cells .entry)) (prod (now (sizes .entry))) (now (destination .entry)) (now (destination .exit)) ⌝ }
-{
-    let mut table = [0u64; 64];
-    let none = [0u64; 1];
-    rows::unpack_with(
-        sizes,
-        p,
-        lens,
-        flat,
-        dims,
-        &mut table,
-        cells,
-        destination,
-        &none[..0],
-    );
-}
-
-// Packs with a table of 1,024 offsets, dividing by the multipliers.
-fn pack_many(
-    sizes: &[u64],
-    p: &[u64],
-    lens: &[usize],
-    flat: &[u64],
-    dims: &[u64],
-    source: &[u32],
-    cells: &mut [u32],
-)
-    requires { ⌜ Ready (now sizes) (now p) (now lens) (now flat) ⌝ }
-    requires { ⌜ now dims ≡ physical (now sizes) (now p) (tilesFrom (now lens) (now flat)) ⌝ }
-    requires { ⌜ (prod (now sizes) ≤ length (now source)) × (padded (now sizes) (now p) (tilesFrom (now lens) (now flat)) ≤ length (now cells)) ⌝ }
-    ensures { λ _. ⌜ Stored (now (sizes .entry)) (now (p .entry)) (tilesFrom (now (lens .entry)) (now (flat .entry))) (now (source .entry)) (prod (now (sizes .entry))) (now (cells .entry)) (now (cells .exit)) ⌝ }
+    requires { ⌜ HasRoom packs (now sizes) (now p) (tilesFrom (now lens) (now flat)) (now from) (now to) ⌝ }
+    ensures { λ _. ⌜ Carried packs (now (sizes .entry)) (now (p .entry)) (tilesFrom (now (lens .entry)) (now (flat .entry))) (now (from .entry)) (now (to .entry)) (now (to .exit)) ⌝ }
 {
     let r = reciprocal::inner::multipliers();
     let m = r.at;
     let mut table = [0u64; 1024];
-    rows::pack_with(sizes, p, lens, flat, dims, &mut table, source, cells, &m);
-}
-
-// Unpacks with a table of 1,024 offsets, dividing by the multipliers.
-fn unpack_many(
-    sizes: &[u64],
-    p: &[u64],
-    lens: &[usize],
-    flat: &[u64],
-    dims: &[u64],
-    cells: &[u32],
-    destination: &mut [u32],
-)
-    requires { ⌜ Ready (now sizes) (now p) (now lens) (now flat) ⌝ }
-    requires { ⌜ now dims ≡ physical (now sizes) (now p) (tilesFrom (now lens) (now flat)) ⌝ }
-    requires { ⌜ (prod (now sizes) ≤ length (now destination)) × (padded (now sizes) (now p) (tilesFrom (now lens) (now flat)) ≤ length (now cells)) ⌝ }
-    ensures { λ _. ⌜ Loaded (now (sizes .entry)) (now (p .entry)) (tilesFrom (now (lens .entry)) (now (flat .entry))) (now (cells .entry)) (prod (now (sizes .entry))) (now (destination .entry)) (now (destination .exit)) ⌝ }
-{
-    let r = reciprocal::inner::multipliers();
-    let m = r.at;
-    let mut table = [0u64; 1024];
-    rows::unpack_with(
-        sizes,
-        p,
-        lens,
-        flat,
-        dims,
-        &mut table,
-        cells,
-        destination,
-        &m,
-    );
+    if packs {
+        rows::pack_with(sizes, p, lens, flat, dims, &mut table, from, to, &m);
+    } else {
+        rows::unpack_with(sizes, p, lens, flat, dims, &mut table, from, to, &m);
+    }
 }
 
 // Packs along a table of the offsets of all elements.
@@ -226,9 +165,9 @@ fn store_elements(
         return;
     }
     if count < MANY {
-        pack_few(sizes, p, lens, flat, dims, source, cells);
+        in_short_rows(true, sizes, p, lens, flat, dims, source, cells);
     } else {
-        pack_many(sizes, p, lens, flat, dims, source, cells);
+        in_long_rows(true, sizes, p, lens, flat, dims, source, cells);
     }
 }
 
@@ -258,9 +197,9 @@ fn load_elements(
         return;
     }
     if count < MANY {
-        unpack_few(sizes, p, lens, flat, dims, cells, destination);
+        in_short_rows(false, sizes, p, lens, flat, dims, cells, destination);
     } else {
-        unpack_many(sizes, p, lens, flat, dims, cells, destination);
+        in_long_rows(false, sizes, p, lens, flat, dims, cells, destination);
     }
 }
 

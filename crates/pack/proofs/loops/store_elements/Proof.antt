@@ -60,11 +60,11 @@ same-length-2 c = search needs
 returns-2 : tie.Need-returns-2
 returns-2 c = search needs
 
-pack-few-requires : tie.Need-pack-few-requires
-pack-few-requires c κs = let s = start (c .before .before .before .before) in (s .pre .0, (s .pre .1 .0, s .pre .1 .1 .1))
+in-short-rows-requires : tie.Need-in-short-rows-requires
+in-short-rows-requires c κs = let s = start (c .before .before .before .before) in (s .pre .0, (s .pre .1 .0, s .pre .1 .1 .1))
 
-pack-many-requires : tie.Need-pack-many-requires
-pack-many-requires c κs = let s = start (c .before .before .before .before) in (s .pre .0, (s .pre .1 .0, s .pre .1 .1 .1))
+in-long-rows-requires : tie.Need-in-long-rows-requires
+in-long-rows-requires c κs = let s = start (c .before .before .before .before) in (s .pre .0, (s .pre .1 .0, s .pre .1 .1 .1))
 
 same-length-3 : tie.Need-same-length-3
 same-length-3 c = search needs
@@ -89,8 +89,8 @@ store-elements-spec =
     pack-by-table-requires
     same-length-2
     returns-2
-    pack-few-requires
-    pack-many-requires
+    in-short-rows-requires
+    in-long-rows-requires
     same-length-3
     returns-3
     same-length-4
