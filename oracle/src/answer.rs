@@ -1,5 +1,6 @@
 //! Answers: from the bytes of a whole input to the answer blocks of its requests.
 
+use crate::answer_retile::retile_answer;
 use crate::buffer::{load, pack, store, unpack};
 use crate::compose::compose;
 use crate::division::{multiplier, quotient};
@@ -74,6 +75,7 @@ fn answer_request(request: &Request) -> String {
         Request::Quotient { number, divisor } => {
             quotient(*number, *divisor).map(|quotient| format!("quotient {quotient}"))
         }
+        Request::Retile(request) => retile_answer(request),
         Request::Route(route) => best_plan(route).map(|plan| plan_text(&plan)),
         Request::Eval { map, point } => {
             evaluate(map, point).map(|values| format!("value {}", tuple(&values)))
@@ -195,7 +197,8 @@ fn tuple<T: ToString>(point: &[T]) -> String {
     format!("({})", coordinates.join(", "))
 }
 
-fn row(word: &str, values: &[u32]) -> String {
+/// A word and the values behind it.
+pub fn row(word: &str, values: &[u32]) -> String {
     let mut line = word.to_string();
     for value in values {
         line.push_str(&format!(" {value}"));

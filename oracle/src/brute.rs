@@ -4,6 +4,7 @@ use crate::brute_compose::brute_compose;
 use crate::brute_divisions::brute_divisions;
 use crate::brute_maps::brute_maps;
 use crate::brute_operations::brute_operations;
+use crate::brute_retile::brute_retile;
 use crate::brute_routes::brute_routes;
 use crate::buffer::{pack, unpack};
 use crate::layout::{padded_size, Layout};
@@ -37,6 +38,7 @@ pub fn brute() -> Result<u64, String> {
     brute_compose(&mut tally)?;
     brute_operations(&mut tally)?;
     brute_divisions(&mut tally)?;
+    brute_retile(&mut tally)?;
     Ok(tally.comparisons)
 }
 

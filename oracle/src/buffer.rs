@@ -64,7 +64,7 @@ pub fn load(shape: &Shape, layout: &Layout, element: u64, cells: &[u32]) -> Resu
 }
 
 /// Number 9 where a lent buffer is shorter than needed.
-fn need(buffer: &[u32], length: u64) -> Result<(), Refusal> {
+pub fn need(buffer: &[u32], length: u64) -> Result<(), Refusal> {
     if (buffer.len() as u64) < length {
         return Err(Refusal::ShortBuffer);
     }

@@ -1,11 +1,13 @@
 //! The commands of the oracle: answer, random, vectors and brute.
 
 mod answer;
+mod answer_retile;
 mod brute;
 mod brute_compose;
 mod brute_divisions;
 mod brute_maps;
 mod brute_operations;
+mod brute_retile;
 mod brute_routes;
 mod buffer;
 mod compose;
@@ -44,6 +46,8 @@ mod random_pair_limits;
 mod random_pairs;
 mod random_pieces;
 mod random_requests;
+mod random_retile;
+mod random_retile_breaks;
 mod random_route_breaks;
 mod random_route_limits;
 mod random_routes;
@@ -53,12 +57,15 @@ mod reader_maps;
 mod refusal;
 mod request;
 mod request_operations;
+mod request_retile;
+mod retile;
 mod route;
 mod route_by_trial;
 mod shape;
 mod share;
 mod small_cases;
 mod small_operations;
+mod small_retilings;
 #[cfg(test)]
 mod tests;
 #[cfg(test)]
@@ -69,6 +76,10 @@ mod tests_divisions;
 mod tests_maps;
 #[cfg(test)]
 mod tests_operations;
+#[cfg(test)]
+mod tests_random_retile;
+#[cfg(test)]
+mod tests_retile;
 #[cfg(test)]
 mod tests_routes;
 mod token;
@@ -103,7 +114,7 @@ use std::process::ExitCode;
 use random_kinds::{random_lines, Kind};
 
 const USAGE: &str =
-    "usage: oracle answer | random SEED N [layout | route | map | compose | operation | division] | vectors [DIR] | brute";
+    "usage: oracle answer | random SEED N [layout | route | map | compose | operation | division | retile] | vectors [DIR] | brute";
 
 /// Where `vectors` writes when no directory is given.
 const VECTORS_DIRECTORY: &str = "crates/zungatewi";

@@ -1,4 +1,4 @@
-//! Random request lines by kind: layouts, routes, maps, compositions, operations, divisions, or a mix of them.
+//! Random request lines by kind: layouts, routes, maps, compositions, operations, divisions, re-tilings, or a mix of them.
 
 use crate::random::Random;
 use crate::random_compose_lines::random_compose_line;
@@ -6,6 +6,7 @@ use crate::random_divisions::random_division_line;
 use crate::random_map_lines::random_map_line;
 use crate::random_operation_lines::random_operation_line;
 use crate::random_requests::random_line;
+use crate::random_retile::random_retile_line;
 use crate::random_routes::random_route_line;
 
 #[derive(Clone, Copy, Debug, PartialEq, Eq)]
@@ -16,10 +17,11 @@ pub enum Kind {
     Compose,
     Operation,
     Division,
+    Retile,
 }
 
 /// The kinds of a mix; each stands as often as its share is.
-const MIX: [Kind; 9] = [
+const MIX: [Kind; 10] = [
     Kind::Layout,
     Kind::Layout,
     Kind::Layout,
@@ -29,6 +31,7 @@ const MIX: [Kind; 9] = [
     Kind::Compose,
     Kind::Operation,
     Kind::Division,
+    Kind::Retile,
 ];
 
 impl Kind {
@@ -40,6 +43,7 @@ impl Kind {
             "compose" => Some(Kind::Compose),
             "operation" => Some(Kind::Operation),
             "division" => Some(Kind::Division),
+            "retile" => Some(Kind::Retile),
             _ => None,
         }
     }
@@ -58,6 +62,7 @@ pub fn random_lines(seed: u64, count: u64, kind: Option<Kind>) -> Vec<u8> {
             Kind::Compose => random_compose_line(&mut random),
             Kind::Operation => random_operation_line(&mut random),
             Kind::Division => random_division_line(&mut random),
+            Kind::Retile => random_retile_line(&mut random),
         });
         lines.push(b'\n');
     }

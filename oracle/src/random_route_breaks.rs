@@ -25,10 +25,14 @@ pub fn break_rule(random: &mut Random, draft: &mut RouteDraft) {
         7..=9 => break_layout(random, draft),
         _ => {
             let layout = any_layout(random, draft);
-            // For every rank from 1 on these pad to more than 2^40 cells.
-            layout.tiles = vec![vec![1024], vec![1024; 2], vec![1024, 1024, 1000, 1024]];
+            layout.tiles = over_tiles();
         }
     }
+}
+
+/// For every rank from 1 on these tiles pad to more than 2^40 cells.
+pub fn over_tiles() -> Vec<Vec<i64>> {
+    vec![vec![1024], vec![1024; 2], vec![1024, 1024, 1000, 1024]]
 }
 
 fn break_shape(random: &mut Random, draft: &mut RouteDraft) {
@@ -42,10 +46,17 @@ fn break_shape(random: &mut Random, draft: &mut RouteDraft) {
 fn break_layout(random: &mut Random, draft: &mut RouteDraft) {
     let rank = draft.sizes.len();
     let layout = any_layout(random, draft);
+    break_layout_of(random, rank, layout);
+}
+
+/// Breaks the rule of a layout for that rank.
+pub fn break_layout_of(random: &mut Random, rank: usize, layout: &mut Draft) {
     for _ in 0..20 {
         match random.below(5) {
             0 => layout.minor_to_major.push(0),
-            1 if rank > 0 => layout.minor_to_major[0] = random.pick(&[rank as i64, -1]),
+            1 if rank > 0 && !layout.minor_to_major.is_empty() => {
+                layout.minor_to_major[0] = random.pick(&[rank as i64, -1]);
+            }
             2 => layout.tiles.push(vec![random.pick(&[0, 1025, -1])]),
             3 => layout.tiles = vec![vec![1]; 4],
             _ => layout.tiles.push(vec![]),

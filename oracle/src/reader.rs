@@ -144,6 +144,12 @@ impl<'a> Reader<'a> {
         self.ahead.token == Token::Symbol(symbol)
     }
 
+    /// Whether a number is ahead and the token behind it is the symbol.
+    pub fn is_number_before(&self, symbol: u8) -> bool {
+        let behind = token_at(self.line, self.ahead.end);
+        matches!(self.ahead.token, Token::Number(_)) && behind.token == Token::Symbol(symbol)
+    }
+
     /// Goes past the symbol if it is ahead, and says so.
     pub fn skip(&mut self, symbol: u8) -> bool {
         let ahead = self.is_ahead(symbol);

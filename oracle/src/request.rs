@@ -7,6 +7,7 @@ use crate::map_value::MapPoint;
 use crate::operation::{Operation, Way};
 use crate::reader::{Reader, Unreadable};
 use crate::request_operations::{is_operation, read_operation};
+use crate::request_retile::{read_retile, RetileRequest};
 use crate::route::Route;
 use crate::shape::Shape;
 
@@ -37,6 +38,7 @@ pub enum Request {
         number: u64,
         divisor: u64,
     },
+    Retile(RetileRequest),
     Route(Route),
     Eval {
         map: Map,
@@ -108,6 +110,7 @@ pub fn read_request(line: &[u8]) -> Result<Request, Unreadable> {
             number: reader.unsigned()?,
             divisor: reader.unsigned()?,
         },
+        b"retile" => Request::Retile(read_retile(&mut reader)?),
         b"route" => Request::Route(route(&mut reader)?),
         b"eval" => eval(&mut reader)?,
         b"range" => Request::Range(read_map(&mut reader)?),
@@ -225,7 +228,7 @@ fn question(word: &[u8], reader: &mut Reader) -> Result<Question, Unreadable> {
 }
 
 /// Two buffer lengths, both or none.
-fn two_lengths(reader: &mut Reader) -> Result<(u64, u64), Unreadable> {
+pub fn two_lengths(reader: &mut Reader) -> Result<(u64, u64), Unreadable> {
     if reader.at_end() {
         return Ok((MAX_LENGTH, MAX_LENGTH));
     }
