@@ -102,6 +102,7 @@ mod vectors_operation_unreadable;
 mod vectors_operations;
 mod vectors_order;
 mod vectors_places;
+mod vectors_retile;
 mod vectors_routes;
 mod vectors_shapes;
 mod vectors_shares;

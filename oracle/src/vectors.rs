@@ -24,6 +24,7 @@ use crate::vectors_operation_unreadable::{long_operations, OPERATION_TOKENS};
 use crate::vectors_operations::OPERATIONS;
 use crate::vectors_order::ORDER;
 use crate::vectors_places::PLACES;
+use crate::vectors_retile::{long_retilings, retiling_cuts, RETILINGS};
 use crate::vectors_routes::{ROUTES, UNREADABLE_ROUTES};
 use crate::vectors_shapes::SHAPES;
 use crate::vectors_shares::SHARES;
@@ -45,6 +46,7 @@ const RANDOM_MAPS: u64 = 4000;
 const RANDOM_COMPOSITIONS: u64 = 3000;
 const RANDOM_OPERATIONS: u64 = 4000;
 const RANDOM_DIVISIONS: u64 = 2000;
+const RANDOM_RETILINGS: u64 = 60;
 
 /// Writes both files into a directory.
 pub fn write_vectors(directory: &str) -> io::Result<()> {
@@ -64,6 +66,7 @@ fn requests() -> Vec<u8> {
     compositions(&mut bytes);
     operations(&mut bytes);
     divisions(&mut bytes);
+    retilings(&mut bytes);
     bytes.extend(b"# a last line that ends at the end of the input\n");
     bytes.extend(b"offset [3,5] {1,0:T(2,2)} (2,3)");
     bytes
@@ -138,6 +141,18 @@ fn divisions(bytes: &mut Vec<u8>) {
     around_reached(&mut text);
     bytes.extend(text.bytes());
     random_group(bytes, "divisions", RANDOM_DIVISIONS, Kind::Division);
+}
+
+/// The requests about re-tiling.
+fn retilings(bytes: &mut Vec<u8>) {
+    let mut text = String::new();
+    for (title, lines) in RETILINGS {
+        group(&mut text, title, lines.iter());
+    }
+    retiling_cuts(&mut text);
+    long_retilings(&mut text);
+    bytes.extend(text.bytes());
+    random_group(bytes, "re-tilings", RANDOM_RETILINGS, Kind::Retile);
 }
 
 /// Adds a comment, and random lines of one kind.
