@@ -1,0 +1,4 @@
+pub mod Stores
+pub mod Retile
+pub mod Steps
+pub mod Answers

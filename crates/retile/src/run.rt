@@ -1,0 +1,66 @@
+// A run: the values of some cells are read, then settled one store to a step, and so on. Inner functions.
+use super::stores;
+use super::values;
+ghost use mathlib.Core.Path.{_≡_};
+ghost use Prim.Native.Nat.{_+_, _≤_, min};
+ghost use lib.ListN.{length};
+ghost use Rattle.tiling.specs.Tile.{tilesFrom, padded};
+ghost use Rattle.retile.specs.Stores.{memory, applyAll, stores};
+ghost use Rattle.retile.specs.Retile.{valueIn};
+ghost use Rattle.retile.specs.Steps.{IsSide};
+
+// So many values are read before they are stored.
+const AHEAD: u64 = 64;
+
+// The smaller of two numbers.
+pub fn least(a: u64, b: u64) -> u64
+    ensures { λ r. ⌜ r ≡ min a b ⌝ }
+{
+    if a <= b { a } else { b }
+}
+
+// Settles count cells from the mark on.
+pub fn run(
+    sizes: &[u64],
+    p: &[u64],
+    plens: &[usize],
+    pflat: &[u64],
+    pdims: &[u64],
+    q: &[u64],
+    qlens: &[usize],
+    qflat: &[u64],
+    qdims: &[u64],
+    source: &[u32],
+    cells: &mut [u32],
+    mark: &mut u64,
+    count: u64,
+)
+    requires { ⌜ IsSide (now sizes) (now p) (now plens) (now pflat) (now pdims) (now source) ⌝ }
+    requires { ⌜ IsSide (now sizes) (now q) (now qlens) (now qflat) (now qdims) (now cells) ⌝ }
+    requires { ⌜ now mark + count ≤ padded (now sizes) (now q) (tilesFrom (now qlens) (now qflat)) ⌝ }
+    ensures { λ _. ⌜ memory (now (cells .exit)) (now (mark .exit)) ≡ applyAll (stores (valueIn (now (sizes .entry)) (now (p .entry)) (tilesFrom (now (plens .entry)) (now (pflat .entry))) (now (q .entry)) (tilesFrom (now (qlens .entry)) (now (qflat .entry))) (now (source .entry))) (now (mark .entry)) count) (memory (now (cells .entry)) (now (mark .entry))) ⌝ }
+{
+    let end = *mark + count;
+    let none = [0u64; 1];
+    let mut ahead = [0u32; 64];
+    while *mark < end {
+        let o = *mark;
+        let n = least(AHEAD, end - o) as usize;
+        values::values_into(
+            sizes,
+            p,
+            plens,
+            pflat,
+            pdims,
+            q,
+            qlens,
+            qflat,
+            qdims,
+            source,
+            o,
+            &mut ahead[..n],
+            &none[..0],
+        );
+        stores::settle(&ahead[..n], 2 * n, cells, mark);
+    }
+}
