@@ -10,3 +10,4 @@ pub mod Levels
 pub mod Undo
 pub mod Shaped
 pub mod Coordinates
+pub mod UndoInPlace

@@ -5,6 +5,7 @@ mod physical;
 mod row;
 
 pub use cell::Found;
+pub use cell::cell_in;
 pub use lists::cell_found;
 pub use lists::element_offset;
 pub use lists::padded_cells;

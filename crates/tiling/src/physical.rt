@@ -142,7 +142,7 @@ fn index_into(
 }
 
 // The offset of a point, where dims is the physical shape and m the multipliers.
-fn placed(
+pub fn placed(
     sizes: &[u64],
     p: &[u64],
     lens: &[usize],
