@@ -11,3 +11,4 @@ pub mod Undo
 pub mod Shaped
 pub mod Coordinates
 pub mod UndoInPlace
+pub mod Along

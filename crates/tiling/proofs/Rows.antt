@@ -180,7 +180,7 @@ digits-none [] k = refl
 digits-none (d ∷ ds) zero = zero-div (prod ds)
 digits-none (d ∷ ds) (suc k) = ap (λ (x : ℕ). getD (digits ds x) k 0) (zero-mod (prod ds)) ∙ digits-none ds k
 
-digits-length : (ds : List ℕ) (x : ℕ) → length (digits ds x) ≡ length ds
+pub digits-length : (ds : List ℕ) (x : ℕ) → length (digits ds x) ≡ length ds
 digits-length [] x = refl
 digits-length (d ∷ ds) x = ap suc (digits-length ds (x % prod ds))
 
@@ -196,7 +196,7 @@ sums-here e f g es fs q l z = record { added = record { left = ap suc l; right =
     apart zero n = absurd (n refl)
     apart (suc k) n = inl (z k)
 
-sums-there : (i e f g : ℕ) (es fs gs : List ℕ) → f ≡ 0 → g ≡ e → Sums i es fs gs → Sums (suc i) (e ∷ es) (f ∷ fs) (g ∷ gs)
+pub sums-there : (i e f g : ℕ) (es fs gs : List ℕ) → f ≡ 0 → g ≡ e → Sums i es fs gs → Sums (suc i) (e ∷ es) (f ∷ fs) (g ∷ gs)
 sums-there i e f g es fs gs z q s = record { added = record { left = ap suc (s .added .left); right = ap suc (s .added .right); sum = sum }; apart = apart }
   where
     sum : (k : ℕ) → getD (g ∷ gs) k 0 ≡ getD (e ∷ es) k 0 + getD (f ∷ fs) k 0
@@ -281,6 +281,23 @@ one-place p q i k l h e =
     (λ (w : i ≤ k). ⊎-elim (λ (y : k ≤ i). omega arith) (λ (y : i < k). absurd (a i k y h (sym e))) (le-or-lt k i))
     (λ (w : k < i). absurd (a k i w l e)) (le-or-lt i k)
 
+-- Coordinates es and fs that share only dimension k, at place i of the order: where fs has fewer of it than the row from es on has room for, offsets add up.
+pub sums-offset : (sizes p : List ℕ) (tss : List (List ℕ)) → Valid sizes p tss → (k i c b x : ℕ) (es fs gs : List ℕ) → i < length p → getD p i 0 ≡ k → Sums k es fs gs → getD es k 0 ≡ c → getD fs k 0 ≡ x
+    → x < rowRoom tss (length p) i c b → offsetAt sizes p tss gs ≡ offsetAt sizes p tss es + offsetAt sizes p tss fs
+unfolding offsetAt
+sums-offset sizes p tss v k i c b x es fs gs h e s first by near =
+    let start : Reach = record { place = i; coordinate = c; scale = 1; most = b } in
+    let m : Moved (length p) x start (gather p es) (gather p fs) (gather p gs) =
+    record {
+      long = length-map p (λ (o : ℕ). getD gs o 0);
+      place = h;
+      scale = omega arith;
+      sums = sums-gather p k i es fs gs (λ o w z. one-place p (v .perm) i o h w (z ∙ sym e)) s;
+      first = getD-gather p es i h ∙ ap (λ (o : ℕ). getD es o 0) e ∙ first;
+      by = getD-gather p fs i h ∙ ap (λ (o : ℕ). getD fs o 0) e ∙ by ∙ sym (div-one x);
+    } in
+    added-row (physical sizes p tss) (indexOf tss (gather p es)) (indexOf tss (gather p fs)) (indexOf tss (gather p gs)) (reached-added tss (length p) x start (gather p es) (gather p fs) (gather p gs) (v .tiles) m near)
+
 -- Elements in steps of the sizes after k: from step q on, an element j places further, j below the row's room, has the offset of the first one plus that of element j.
 module _ (sizes p : List ℕ) (tss : List (List ℕ)) (v : Valid sizes p tss) (small : Sizes sizes) (k i : ℕ) (l : k < length sizes) (h : i < length p) (e : getD p i 0 ≡ k) where
   abbrev d : ℕ
@@ -333,25 +350,10 @@ module _ (sizes p : List ℕ) (tss : List (List ℕ)) (v : Valid sizes p tss) (s
         omega (arith, from-k, ap (λ (o : ℕ). o * P) z)
 
     pub row-offset : offset sizes p tss (q * P + j) ≡ offset sizes p tss (q * P) + offset sizes p tss j
-    unfolding offset offsetAt
+    unfolding offset
     row-offset =
         let g : Begun k sizes c (q * P) j = subst (λ (n : ℕ). Begun k sizes c n j) (sym (step q)) (begun k sizes (q / d) c j l (block q inside) within) in
-        let es = digits sizes (q * P) in
-        let fs = digits sizes j in
-        let gs = digits sizes (q * P + j) in
-        let m : Moved (length p) (j / P) start (gather p es) (gather p fs) (gather p gs) =
-        record {
-          long = length-gather gs;
-          place = h;
-          scale = omega arith;
-          sums = sums-gather p k i es fs gs (λ o w z. one-place p (v .perm) i o h w (z ∙ sym e)) (g .sums);
-          first = getD-gather p es i h ∙ ap (λ (o : ℕ). getD es o 0) e ∙ g .first;
-          by = getD-gather p fs i h ∙ ap (λ (o : ℕ). getD fs o 0) e ∙ g .by ∙ sym (div-one (j / P));
-        } in
-        added-row (physical sizes p tss) (indexOf tss (gather p es)) (indexOf tss (gather p fs)) (indexOf tss (gather p gs)) (reached-added tss (length p) (j / P) start (gather p es) (gather p fs) (gather p gs) (v .tiles) m near)
-      where
-        length-gather : (xs : List ℕ) → length (gather p xs) ≡ length p
-        length-gather xs = length-map p (λ (o : ℕ). getD xs o 0)
+        sums-offset sizes p tss v k i c b (j / P) (digits sizes (q * P)) (digits sizes j) (digits sizes (q * P + j)) h e (g .sums) (g .first) (g .by) near
 
 -- without a dimension the one element has offset 0
 index-none : (tss : List (List ℕ)) (es : List ℕ) → Tiles tss 0 → length es ≡ 0 → length (indexOf tss es) ≡ 0
