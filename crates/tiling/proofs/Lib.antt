@@ -12,3 +12,5 @@ pub mod Shaped
 pub mod Coordinates
 pub mod UndoInPlace
 pub mod Along
+pub mod PaddingRuns
+pub mod RunEnds

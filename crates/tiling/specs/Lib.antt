@@ -3,3 +3,4 @@ pub mod Cell
 pub mod Row
 pub mod Ready
 pub mod Found
+pub mod Runs

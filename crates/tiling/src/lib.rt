@@ -3,6 +3,7 @@ mod cell;
 mod lists;
 mod physical;
 mod row;
+mod runs;
 
 pub use cell::Found;
 pub use cell::cell_in;
@@ -17,3 +18,5 @@ pub use physical::physical_dims;
 pub use physical::reverse_into;
 pub use row::Reach;
 pub use row::row_reach;
+pub use runs::padding_run;
+pub use runs::rest_of;

@@ -1,13 +1,13 @@
 -- `tiling::cell::untile_in` meets its contract. The invariant: the first j entries of the tile are undone. Assumes nothing.
 use borrow.Author.Needs.{needs}
-use mathlib.Core.Path.{_≡_, refl, sym, ap, _∙_, subst}
+use mathlib.Core.Path.{_≡_, refl, sym, ap, _∙_}
 use Prim.Native.Nat.{ℕ, _+_, _-_, _*_, _^_, _<_, _≤_}
 use native.Mathlib.Nat.{mul-le-mul}
 use native.Mathlib.Omega.{arith}
 use borrow.Author.Count.{falls}
 use mathlib.Core.List.{List}
 use denote.Ref.{now}
-use lib.ListN.{length, getD, take, set, length-set}
+use lib.ListN.{length, getD, take, length-set}
 use lib.Seq.{getD-take, length-take-le}
 use Rattle.radix.specs.Radix.{Upto}
 use Rattle.tiling.proofs.UndoInPlace.{PartlyUndone, undone-start, undone-quotient, undone-remainder, undone-next, undone-end}
