@@ -1,7 +1,8 @@
 // The buffers of a case: checked once with every version, then measured.
-use crate::cases::Case;
-use crate::measure::{in_turn, Times};
-use crate::{library_pack, library_read, library_unpack, ordinary, plain_pack, vectors};
+use crate::shared::cases::Case;
+use crate::shared::measure::{in_turn, Times};
+use crate::shared::packer;
+use crate::{library_pack, library_read, library_unpack, plain_pack, vectors};
 use std::cell::RefCell;
 use std::hint::black_box;
 
@@ -17,11 +18,11 @@ pub struct Buffers {
 }
 
 fn ordinary_pack(case: &Case, source: &[u32], cells: &mut [u32]) -> u64 {
-    ordinary::pack(&case.sizes, &case.layout, source, cells).map_or_else(|number| number, |_| 0)
+    packer::pack(&case.sizes, &case.layout, source, cells).map_or_else(|number| number, |_| 0)
 }
 
 fn ordinary_unpack(case: &Case, cells: &[u32], destination: &mut [u32]) -> u64 {
-    ordinary::unpack(&case.sizes, &case.layout, cells, destination).map_or_else(|number| number, |_| 0)
+    packer::unpack(&case.sizes, &case.layout, cells, destination).map_or_else(|number| number, |_| 0)
 }
 
 fn vectors_pack(case: &Case, source: &[u32], cells: &mut [u32]) -> u64 {

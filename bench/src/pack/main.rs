@@ -4,19 +4,16 @@
 // on the main ones; `run pack random SEED N` compares and measures N random cases, `run pack few SEED N` such of at most 64 elements. One more word, as in `run pack all [4096,1024]` or
 // `run pack plain [4096,1024]`, leaves only the cases that have it in their names.
 mod buffers;
-mod cases;
-#[allow(dead_code)]
-#[path = "../fold/clock.rs"]
-mod clock;
-mod measure;
-mod ordinary;
+mod list;
 mod random;
 mod refused;
+#[path = "../shared/mod.rs"]
+mod shared;
 mod vectors;
 
 use buffers::Buffers;
-use cases::{Case, Random};
-use measure::short;
+use shared::cases::{Case, Random};
+use shared::measure::short;
 
 #[allow(improper_ctypes)]
 #[link(name = "pack_bench", kind = "static")]
@@ -88,7 +85,7 @@ fn main() {
     let words: Vec<String> = std::env::args().skip(1).collect();
     let number = |k: usize, other: u64| words.get(k).map_or(other, |w| w.parse().expect("a number"));
     let part = words.get(1).map_or("", |w| w);
-    let listed = |all| cases::listed(all).into_iter().filter(|c| c.name().contains(part));
+    let listed = |all| list::listed(all).into_iter().filter(|c| c.name().contains(part));
     refused::compare();
     match words.first().map_or("", |w| w) {
         "random" => random::report(number(1, 1), number(2, 100).max(1) as usize, Random::any_case),

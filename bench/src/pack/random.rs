@@ -1,7 +1,7 @@
 // The random modes: the library's ratios to both ordinary versions on random cases, and the worst of them.
 use crate::buffers::Buffers;
-use crate::cases::{Case, Random};
-use crate::measure::Times;
+use crate::shared::cases::{Case, Random};
+use crate::shared::measure::Times;
 use crate::ROUNDS;
 
 /// A ratio, and the same without the reading of the row.

@@ -1,6 +1,6 @@
 // Input that breaks a rule: every version refuses it with the same number and writes nothing.
-use crate::cases::Case;
-use crate::ordinary::{pack, unpack, Layout};
+use crate::shared::cases::Case;
+use crate::shared::packer::{pack, unpack, Layout};
 use crate::{library_pack, library_unpack, vectors};
 
 fn case(sizes: &[u64], minor_to_major: &[usize], tiles: &[&[u64]]) -> Case {

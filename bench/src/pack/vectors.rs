@@ -1,5 +1,5 @@
 // A second ordinary packer, over vectors: the physical shape is made once a call, and every element uses the point and the index again.
-use crate::ordinary::{product, Layout, Refused, BUFFER, LAYOUT, MAX_ENTRIES, MAX_ENTRY, MAX_RANK, MAX_SIZE, MAX_TILES, PADDED, SHAPE};
+use crate::shared::packer::{product, Layout, Refused, BUFFER, LAYOUT, MAX_ENTRIES, MAX_ENTRY, MAX_RANK, MAX_SIZE, MAX_TILES, PADDED, SHAPE};
 
 /// The number of elements of a shape that keeps the limits.
 fn count(sizes: &[u64]) -> Result<u64, Refused> {

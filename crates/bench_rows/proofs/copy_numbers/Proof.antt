@@ -1,10 +1,10 @@
--- `pack_bench::copy_numbers` is safe and ends. The row has the places, and the measure is the number of those that are left. Assumes nothing.
+-- `bench_rows::copy_numbers` is safe and ends. The row has the places, and the measure is the number of those that are left. Assumes nothing.
 use mathlib.Core.Path.{_≡_}
 use Prim.Native.Nat.{_+_, _-_, _≤_}
 use borrow.Author.Needs.{needs}
 use lib.ListN.{length}
-use Rattle.pack_bench.proofs.copy_numbers.Statement.{statement}
-use Rattle.pack_bench.proofs.copy_numbers.Tie as tie
+use Rattle.bench_rows.proofs.copy_numbers.Statement.{statement}
+use Rattle.bench_rows.proofs.copy_numbers.Tie as tie
 
 abbrev Inv-loop : tie.InvT-loop
 Inv-loop row from target₀ count k₀ target k = (k ≤ count) × (from + count ≤ length row) × (count ≡ length target₀) × (length target ≡ length target₀)

@@ -1,6 +1,6 @@
 // Times in turn, and their ratios round by round.
-use crate::cases::Random;
-use crate::clock::thread_seconds;
+use super::cases::Random;
+use super::clock::thread_seconds;
 
 /// The seconds of a call in each round.
 pub struct Times(Vec<f64>);
@@ -8,6 +8,11 @@ pub struct Times(Vec<f64>);
 impl Times {
     pub fn best(&self) -> f64 {
         self.0.iter().copied().fold(f64::MAX, f64::min)
+    }
+
+    /// The ratio of the least times.
+    pub fn best_over(&self, other: &Times) -> f64 {
+        self.best() / other.best()
     }
 
     /// The same with a fixed part subtracted.
