@@ -8,7 +8,7 @@ use mathlib.Core.List.{List, [], _∷_, _++_}
 use lib.ListN.{length, getD, take, length-set}
 use lib.Seq.{set-set, getD-set-same, getD-set-other}
 use Rattle.radix.proofs.Lists.{le-or-lt}
-use Rattle.retile.specs.Stores.{Store, cell, mark, Memory, memory, apply, applyAll, stores, settled, storesOf, sum, storesOfCalls}
+use Rattle.retile.specs.Stores.{Store, cell, mark, Memory, memory, apply, applyAll, stores, settled, storesOf, sum, storesOfCalls, AllInside}
 use Rattle.retile.proofs.Running.{passed}
 
 module _ (f : ℕ → ℕ) where
@@ -133,3 +133,8 @@ module _ (f : ℕ → ℕ) where
       subst (λ (j : ℕ). getD (applyAll (take k (stores f (m + 1) n)) (passed f M m) .cells) j 0 ≡ f j) (sym z)
       (cut-below n k (m + 1) (passed f M m) m (omega arith) ∙ getD-set-same (M .cells) m (f m) 0 (omega (arith, z))))
       (le-or-lt (m + 1) o)
+
+-- every store of a run lies inside it
+pub stores-inside : (f : ℕ → ℕ) (n m a b : ℕ) → a ≤ m → m + n ≤ b → AllInside a b (stores f m n)
+stores-inside f zero m a b g h = tt
+stores-inside f (suc n) m a b g h = (omega arith, (omega arith, stores-inside f n (m + 1) a b (omega arith) (omega arith)))

@@ -3,4 +3,7 @@ pub mod Cuts
 pub mod Parts
 pub mod Rules
 pub mod Sided
+pub mod Filling
+pub mod Reading
+pub mod Reach
 pub mod Theorems

@@ -3,7 +3,7 @@ use Prim.Native.Nat.{ℕ}
 use mathlib.Core.Bool.{_&&_}
 use mathlib.Core.List.{List, [], _∷_}
 use lib.Dec.{leb}
-use lib.ListN.{length}
+use lib.ListN.{length, take}
 use Rattle.radix.specs.Radix.{maxCount}
 use Rattle.refusal.specs.Number.{Answer, done, refusal, answered}
 use Rattle.refusal.specs.Judge.{Rule, rule, judge}
@@ -14,7 +14,7 @@ use Rattle.shape.specs.Shape.{goodShape}
 use Rattle.shape.specs.declared.Shape.{Shape}
 use Rattle.layout.specs.Layout.{goodLayout, paddedOf}
 use Rattle.layout.specs.declared.Layout.{Layout}
-use Rattle.retile.specs.Stores.{Memory, applyAll, settled, storesOf}
+use Rattle.retile.specs.Stores.{Memory, applyAll, settled, storesOf, storesOfCalls}
 use Rattle.retile.specs.Retile.{valueOf}
 use Rattle.retile.specs.declared.Retiled.{Retiled}
 use Rattle.retile.specs.declared.Retiled.the-variants as retiled
@@ -56,3 +56,7 @@ retileLeft s from to source M n =
 abbrev pub callsLeft : Shape → Layout → Layout → List ℕ → Memory → List ℕ → Memory
 callsLeft s from to source M [] = M
 callsLeft s from to source M (n ∷ ns) = callsLeft s from to source (retileLeft s from to source M n) ns
+
+-- and what a cut after the first k of their stores leaves
+abbrev pub cutAfter : Shape → Layout → Layout → List ℕ → Memory → List ℕ → ℕ → Memory
+cutAfter s from to source M ns k = applyAll (take k (storesOfCalls (valueOf s from to source) (paddedOf s to) (M .mark) ns)) M

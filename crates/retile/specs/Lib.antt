@@ -1,4 +1,5 @@
 pub mod Stores
 pub mod Retile
 pub mod Steps
+pub mod Rows
 pub mod Answers

@@ -1,5 +1,5 @@
 -- Re-tiling as single stores: the cells of a destination and its mark, what one store leaves, and the list of stores of a call. Assumes nothing.
-use Prim.Native.Nat.{ℕ, zero, suc, _+_, _-_, min}
+use Prim.Native.Nat.{ℕ, zero, suc, _+_, _-_, _<_, _≤_, min}
 use mathlib.Core.List.{List, [], _∷_, _++_}
 use lib.ListN.{set}
 
@@ -43,6 +43,16 @@ storesOf f size m n = stores f m (settled size m n)
 abbrev pub storesOfCalls : (ℕ → ℕ) → ℕ → ℕ → List ℕ → List Store
 storesOfCalls f size m [] = []
 storesOfCalls f size m (n ∷ ns) = storesOf f size m n ++ storesOfCalls f size (m + settled size m n) ns
+
+-- a store into a cell from m on and below size, or into the mark, of a number above m and at most size
+abbrev pub Inside : ℕ → ℕ → Store → Type 0
+Inside m size (cell o v) = (m ≤ o) × (o < size)
+Inside m size (mark k) = (m < k) × (k ≤ size)
+
+-- and so each store of a list
+abbrev pub AllInside : ℕ → ℕ → List Store → Type 0
+AllInside m size [] = Unit
+AllInside m size (x ∷ xs) = Inside m size x × AllInside m size xs
 
 -- the sum of the allowances
 abbrev pub sum : List ℕ → ℕ

@@ -1,4 +1,5 @@
 // Re-tiling: from a lent buffer in one layout to another in another layout, with a lent mark that says how many cells are final.
+mod along;
 mod run;
 mod sides;
 mod stores;

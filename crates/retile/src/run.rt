@@ -1,4 +1,5 @@
 // A run: the values of some cells are read, then settled one store to a step, and so on. Inner functions.
+use super::along;
 use super::stores;
 use super::values;
 ghost use mathlib.Core.Path.{_≡_};
@@ -10,7 +11,7 @@ ghost use Rattle.retile.specs.Retile.{valueIn};
 ghost use Rattle.retile.specs.Steps.{IsSide};
 
 // So many values are read before they are stored.
-const AHEAD: u64 = 64;
+const AHEAD: u64 = 256;
 
 // The smaller of two numbers.
 pub fn least(a: u64, b: u64) -> u64
@@ -42,7 +43,25 @@ pub fn run(
 {
     let end = *mark + count;
     let none = [0u64; 1];
-    let mut ahead = [0u32; 64];
+    let mut ptable = [0u64; 128];
+    let mut qtable = [0u64; 128];
+    let g = along::rows_of(
+        sizes,
+        p,
+        plens,
+        pflat,
+        pdims,
+        q,
+        qlens,
+        qflat,
+        qdims,
+        count,
+        AHEAD,
+        &mut ptable,
+        &mut qtable,
+        &none[..0],
+    );
+    let mut ahead = [0u32; 256];
     while *mark < end {
         let o = *mark;
         let n = least(AHEAD, end - o) as usize;
@@ -56,6 +75,9 @@ pub fn run(
             qlens,
             qflat,
             qdims,
+            g,
+            &ptable,
+            &qtable,
             source,
             o,
             &mut ahead[..n],

@@ -19,15 +19,15 @@ use Rattle.retile.proofs.run.run.Statement.{statement}
 use Rattle.retile.proofs.run.run.Tie as tie
 
 abbrev Inv-loop : tie.InvT-loop
-Inv-loop sizes p plens pflat pdims q qlens qflat qdims source cells₀ mark₀ count end none ahead₀ cells mark ahead =
-    (length ahead ≡ 64) × (mark ≤ end) × Come (valueIn sizes p (tilesFrom plens pflat) q (tilesFrom qlens qflat) source) (memory cells₀ mark₀) (memory cells mark)
+Inv-loop sizes p plens pflat pdims q qlens qflat qdims source cells₀ mark₀ count end none ptable qtable g ahead₀ cells mark ahead =
+    (length ahead ≡ 256) × (mark ≤ end) × Come (valueIn sizes p (tilesFrom plens pflat) q (tilesFrom qlens qflat) source) (memory cells₀ mark₀) (memory cells mark)
 
 abbrev μ-loop : tie.MeasureT-loop
-μ-loop sizes p plens pflat pdims q qlens qflat qdims source cells₀ mark₀ count end none ahead₀ cells mark ahead = end - mark
+μ-loop sizes p plens pflat pdims q qlens qflat qdims source cells₀ mark₀ count end none ptable qtable g ahead₀ cells mark ahead = end - mark
 
 -- where the function starts, from the loop; the value of each cell, and the memory there and here
 abbrev start : tie.At-loop Inv-loop μ-loop → tie.Start Inv-loop μ-loop
-start c = c .before .before .before .before .before .before .before .before .before .before .before .before .before
+start c = c .before .before .before .before .before .before .before .before .before .before .before .before .before .before .before .before .before .before .before
 
 abbrev Value : tie.Start Inv-loop μ-loop → ℕ → ℕ
 Value s = valueIn (now (s .args .sizes)) (now (s .args .p)) (tilesFrom (now (s .args .plens)) (now (s .args .pflat))) (now (s .args .q)) (tilesFrom (now (s .args .qlens)) (now (s .args .qflat))) (now (s .args .source))
@@ -44,14 +44,43 @@ Size s = padded (now (s .args .sizes)) (now (s .args .q)) (tilesFrom (now (s .ar
 add-end : tie.Need-add-end Inv-loop μ-loop
 add-end c = let s = c .before .before .before .before .before .before .before .before .before .before .before .before in omega (arith, s .pre .1 .1, s .pre .1 .0 .ready .room)
 
+slice-aggregate-rows-of : tie.Need-slice-aggregate-rows-of Inv-loop μ-loop
+slice-aggregate-rows-of c = search needs
+
+slice-aggregate-rows-of-2 : tie.Need-slice-aggregate-rows-of-2 Inv-loop μ-loop
+slice-aggregate-rows-of-2 c = search needs
+
+array-share-prefix-none : tie.Need-array-share-prefix-none Inv-loop μ-loop
+array-share-prefix-none c = search needs
+
+slice-aggregate-rows-of-3 : tie.Need-slice-aggregate-rows-of-3 Inv-loop μ-loop
+slice-aggregate-rows-of-3 c = search needs
+
+rows-of-requires : tie.Need-rows-of-requires Inv-loop μ-loop
+rows-of-requires c κs =
+    let s = c .before .before .before .before .before .before .before .before .before .before .before .before .before .before .before in
+    let a = s .pre .0 in
+    let b = s .pre .1 .0 in
+    (record { at = λ k h. absurd (not-suc-le-zero h) }, ((a .ready, a .same), ((b .ready, b .same), omega arith)))
+
 loop-holds : tie.Need-loop-holds Inv-loop μ-loop
-loop-holds c = let s = c .before .before .before .before .before .before .before .before .before .before .before .before in (refl, omega arith, come-start (Value s) (First s))
+loop-holds c = let s = c .before .before .before .before .before .before .before .before .before .before .before .before .before .before .before .before .before .before in (refl, omega arith, come-start (Value s) (First s))
 
 sub-least : tie.Need-sub-least Inv-loop μ-loop
 sub-least c = search needs
 
 least-requires : tie.Need-least-requires Inv-loop μ-loop
 least-requires c κs = search needs
+
+-- the rows that are chosen, and the lengths of their tables
+abbrev rows : tie.At-loop Inv-loop μ-loop → tie.After-rows-of Inv-loop μ-loop
+rows c = c .before .before .before
+
+slice-aggregate-values-into : tie.Need-slice-aggregate-values-into Inv-loop μ-loop
+slice-aggregate-values-into c = sym (rows (c .before .before .before .before) .rows-of .kept .1 .1 .1 .1 .1 .1 .1 .1 .1 .1 .1 .0)
+
+slice-aggregate-values-into-2 : tie.Need-slice-aggregate-values-into-2 Inv-loop μ-loop
+slice-aggregate-values-into-2 c = sym (rows (c .before .before .before .before .before) .rows-of .kept .1 .1 .1 .1 .1 .1 .1 .1 .1 .1 .1 .1 .0)
 
 -- a part: its cells, as many as are read and fit, and where they are read
 module _ (c : tie.After-least Inv-loop μ-loop) where
@@ -61,14 +90,14 @@ module _ (c : tie.After-least Inv-loop μ-loop) where
   abbrev n : ℕ
   n = c .least .result
 
-  few : n ≤ 64
-  few = omega (arith, c .least .ensures, min-le-left 64 (now (start l .args .mark) + start l .args .count - l .loop .mark))
+  few : n ≤ 256
+  few = omega (arith, c .least .ensures, min-le-left 256 (now (start l .args .mark) + start l .args .count - l .loop .mark))
 
   fit : n ≤ now (start l .args .mark) + start l .args .count - l .loop .mark
-  fit = omega (arith, c .least .ensures, min-le-right 64 (now (start l .args .mark) + start l .args .count - l .loop .mark))
+  fit = omega (arith, c .least .ensures, min-le-right 256 (now (start l .args .mark) + start l .args .count - l .loop .mark))
 
   some : 0 < n
-  some = ⊎-elim (λ (h : 64 ≤ now (start l .args .mark) + start l .args .count - l .loop .mark). omega (arith, c .least .ensures, min-eq-left {n = 64} {m = now (start l .args .mark) + start l .args .count - l .loop .mark} h)) (λ (h : now (start l .args .mark) + start l .args .count - l .loop .mark < 64). omega (arith, c .least .ensures, c .before .before .loop-test .taken, min-eq-right {n = now (start l .args .mark) + start l .args .count - l .loop .mark} {m = 64} (omega arith))) (le-or-lt 64 (now (start l .args .mark) + start l .args .count - l .loop .mark))
+  some = ⊎-elim (λ (h : 256 ≤ now (start l .args .mark) + start l .args .count - l .loop .mark). omega (arith, c .least .ensures, min-eq-left {n = 256} {m = now (start l .args .mark) + start l .args .count - l .loop .mark} h)) (λ (h : now (start l .args .mark) + start l .args .count - l .loop .mark < 256). omega (arith, c .least .ensures, c .before .before .loop-test .taken, min-eq-right {n = now (start l .args .mark) + start l .args .count - l .loop .mark} {m = 256} (omega arith))) (le-or-lt 256 (now (start l .args .mark) + start l .args .count - l .loop .mark))
 
   room : n ≤ length (l .loop .ahead)
   room = omega (arith, few, l .loop .inv .0)
@@ -82,13 +111,13 @@ module _ (c : tie.After-least Inv-loop μ-loop) where
 -- the values that were read, and where they stand
 module _ (v : tie.After-values-into Inv-loop μ-loop) where
   abbrev part : tie.After-least Inv-loop μ-loop
-  part = v .before .before .before
+  part = v .before .before .before .before .before
 
   abbrev Read : List ℕ
-  Read = v .values-into .last .1 .1 .1 .1 .1 .1 .1 .1 .1 .1 .1 .0
+  Read = v .values-into .last .1 .1 .1 .1 .1 .1 .1 .1 .1 .1 .1 .1 .1 .1 .0
 
   read-length : length Read ≡ n part
-  read-length = v .values-into .kept .1 .1 .1 .1 .1 .1 .1 .1 .1 .1 .1 .0 ∙ lent part
+  read-length = v .values-into .kept .1 .1 .1 .1 .1 .1 .1 .1 .1 .1 .1 .1 .1 .1 .0 ∙ lent part
 
   abbrev Ahead : List ℕ
   Ahead = Read ++ drop (n part) (l part .loop .ahead)
@@ -97,23 +126,28 @@ module _ (v : tie.After-values-into Inv-loop μ-loop) where
   held = take-at Read (drop (n part) (l part .loop .ahead)) (n part) read-length
 
 array-borrow-prefix-ahead : tie.Need-array-borrow-prefix-ahead Inv-loop μ-loop
-array-borrow-prefix-ahead c = room c
+array-borrow-prefix-ahead c = room (c .before .before)
 
-slice-aggregate-values-into : tie.Need-slice-aggregate-values-into Inv-loop μ-loop
-slice-aggregate-values-into c = sym (lent (c .before))
+slice-aggregate-values-into-3 : tie.Need-slice-aggregate-values-into-3 Inv-loop μ-loop
+slice-aggregate-values-into-3 c = sym (lent (c .before .before .before))
 
-array-share-prefix-none : tie.Need-array-share-prefix-none Inv-loop μ-loop
-array-share-prefix-none c = search needs
+array-share-prefix-none-2 : tie.Need-array-share-prefix-none-2 Inv-loop μ-loop
+array-share-prefix-none-2 c = search needs
 
-slice-aggregate-values-into-2 : tie.Need-slice-aggregate-values-into-2 Inv-loop μ-loop
-slice-aggregate-values-into-2 c = search needs
+slice-aggregate-values-into-4 : tie.Need-slice-aggregate-values-into-4 Inv-loop μ-loop
+slice-aggregate-values-into-4 c = search needs
 
 values-into-requires : tie.Need-values-into-requires Inv-loop μ-loop
 values-into-requires c κs =
-    let t = c .before .before in
+    let t = c .before .before .before .before in
     let s = start (l t) in
-    let b = s .pre .1 .0 in
-    (record { at = λ k h. absurd (not-suc-le-zero h) }, (s .pre .0, (b .ready, b .same, omega (arith, inside t, lent t))))
+    let b = s .pre .1 .0 in (
+      record { at = λ k h. absurd (not-suc-le-zero h) },
+      (
+        s .pre .0,
+        ((b .ready, b .same, omega (arith, inside t, lent t)), (rows (l t) .rows-of .ensures, omega (arith, few t, lent t))),
+      ),
+    )
 
 array-share-prefix-ahead : tie.Need-array-share-prefix-ahead Inv-loop μ-loop
 array-share-prefix-ahead c = omega (arith, read-length (c .before), length-append (Read (c .before)) (drop (n (part (c .before))) (l (part (c .before)) .loop .ahead)))
@@ -185,13 +219,20 @@ run-spec =
     Inv-loop
     μ-loop
     add-end
+    slice-aggregate-rows-of
+    slice-aggregate-rows-of-2
+    array-share-prefix-none
+    slice-aggregate-rows-of-3
+    rows-of-requires
     loop-holds
     sub-least
     least-requires
-    array-borrow-prefix-ahead
     slice-aggregate-values-into
-    array-share-prefix-none
     slice-aggregate-values-into-2
+    array-borrow-prefix-ahead
+    slice-aggregate-values-into-3
+    array-share-prefix-none-2
+    slice-aggregate-values-into-4
     values-into-requires
     array-share-prefix-ahead
     slice-aggregate-settle

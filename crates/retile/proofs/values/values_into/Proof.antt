@@ -1,87 +1,82 @@
--- `retile::values::values_into` meets its contract. The invariant: the first i values are written. Assumes nothing.
+-- `retile::values::values_into` meets its contract. The invariant: the places before i are filled, each with its value. Assumes nothing.
 use borrow.Author.Needs.{needs}
-use mathlib.Core.Path.{_≡_, refl, sym, ap, _∙_}
+use mathlib.Core.Path.{_≡_, refl, sym, ap, _∙_, subst}
+use mathlib.Core.Logic.{⊎-elim}
 use mathlib.Core.List.{List}
 use Prim.Native.Nat.{ℕ, _+_, _-_, _<_, _≤_}
 use native.Mathlib.Omega.{arith}
 use denote.Ref.{now}
-use lib.ListN.{length, take, set, length-set}
-use lib.Seq.{take-length}
-use Rattle.radix.proofs.Lists.{fill-next}
-use Rattle.radix.proofs.Radix.{length-tab, getD-tab}
-use Rattle.radix.specs.Radix.{tab}
+use lib.ListN.{length}
 use Rattle.tiling.specs.Tile.{tilesFrom}
 use Rattle.retile.specs.Retile.{valueIn}
+use Rattle.retile.proofs.Filling.{Begun, begun-start, begun-next, begun-end}
 use Rattle.retile.proofs.values.values_into.Statement.{statement}
 use Rattle.retile.proofs.values.values_into.Tie as tie
 
--- the value of the cell i places from o
-abbrev from : List ℕ → List ℕ → List ℕ → List ℕ → List ℕ → List ℕ → List ℕ → List ℕ → ℕ → ℕ → ℕ
-from sizes p plens pflat q qlens qflat source o i = valueIn sizes p (tilesFrom plens pflat) q (tilesFrom qlens qflat) source (o + i)
-
 abbrev Inv-loop : tie.InvT-loop
-Inv-loop sizes p plens pflat pdims q qlens qflat qdims source o values₀ m i₀ values i =
-    (length values ≡ length values₀) × (i ≤ length values) × (take i values ≡ take i (tab (from sizes p plens pflat q qlens qflat source o) (length values₀)))
+Inv-loop sizes p plens pflat pdims q qlens qflat qdims g ptable qtable source o values₀ m filled₀ i₀ values filled i =
+    Begun (λ (x : ℕ). valueIn sizes p (tilesFrom plens pflat) q (tilesFrom qlens qflat) source (o + x)) values₀ values filled i
 
 abbrev μ-loop : tie.MeasureT-loop
-μ-loop sizes p plens pflat pdims q qlens qflat qdims source o values₀ m i₀ values i = length values₀ - i
+μ-loop sizes p plens pflat pdims q qlens qflat qdims g ptable qtable source o values₀ m filled₀ i₀ values filled i = length values₀ - i
 
--- where the function starts, from the loop, and the values
+-- where the function starts, from the loop, and the value of each cell
 abbrev start : tie.At-loop Inv-loop μ-loop → tie.Start Inv-loop μ-loop
-start c = c .before .before .before .before .before .before .before .before .before .before .before .before .before
+start c = c .before .before .before .before .before .before .before .before .before .before .before .before .before .before .before
 
 abbrev Value : tie.Start Inv-loop μ-loop → ℕ → ℕ
-Value s = from (now (s .args .sizes)) (now (s .args .p)) (now (s .args .plens)) (now (s .args .pflat)) (now (s .args .q)) (now (s .args .qlens)) (now (s .args .qflat)) (now (s .args .source)) (s .args .o)
-
-abbrev Values : tie.Start Inv-loop μ-loop → List ℕ
-Values s = tab (Value s) (length (now (s .args .values)))
+Value s x = valueIn (now (s .args .sizes)) (now (s .args .p)) (tilesFrom (now (s .args .plens)) (now (s .args .pflat))) (now (s .args .q)) (tilesFrom (now (s .args .qlens)) (now (s .args .qflat))) (now (s .args .source)) (s .args .o + x)
 
 loop-holds : tie.Need-loop-holds Inv-loop μ-loop
-loop-holds c = (refl, omega arith, refl)
+loop-holds c = let s = c .before .before .before .before .before .before .before .before .before .before .before .before .before .before in begun-start (Value s) (now (s .args .values))
 
-add-value-in : tie.Need-add-value-in Inv-loop μ-loop
-add-value-in c = let s = start (c .before) in omega (arith, c .loop-test .taken, c .before .loop .inv .0, s .pre .1 .1 .2, s .pre .1 .1 .0 .room)
+array-read-if1 : tie.Need-array-read-if1 Inv-loop μ-loop
+array-read-if1 c = let l = c .before in let e = l .loop .inv in omega (arith, c .loop-test .taken, e .wide, e .long, start l .pre .1 .1 .1 .1)
 
-value-in-requires : tie.Need-value-in-requires Inv-loop μ-loop
-value-in-requires c κs =
-    let s = start (c .before) in
-    (s .pre .0, (s .pre .1 .0, (s .pre .1 .1 .0, s .pre .1 .1 .1, omega (arith, c .loop-test .taken, c .before .loop .inv .0, s .pre .1 .1 .2))))
+slice-aggregate-fill-from : tie.Need-slice-aggregate-fill-from Inv-loop μ-loop
+slice-aggregate-fill-from c = sym (c .before .before .before .before .loop .inv .wide)
 
-mul-values : tie.Need-mul-values Inv-loop μ-loop
-mul-values c = search needs
-
-slice-write-values : tie.Need-slice-write-values Inv-loop μ-loop
-slice-write-values c = search needs
+fill-from-requires : tie.Need-fill-from-requires Inv-loop μ-loop
+fill-from-requires c κs =
+    let i = c .before .before .before in
+    let l = i .before in
+    let s = start l in
+    let e = l .loop .inv in (
+      s .pre .0,
+      (
+        s .pre .1 .0,
+        (
+          (s .pre .1 .1 .0 .0, s .pre .1 .1 .0 .1, omega (arith, s .pre .1 .1 .0 .2, e .long)),
+          (s .pre .1 .1 .1 .0, (i .loop-test .taken, omega (arith, e .wide, e .long, s .pre .1 .1 .1 .1))),
+        ),
+      ),
+    )
 
 add-i : tie.Need-add-i Inv-loop μ-loop
-add-i c = search needs
+add-i c = omega (arith, c .before .loop-test .taken, c .before .before .loop .inv .long, start (c .before .before) .pre .1 .1 .1 .1)
 
 loop-less : tie.Need-loop-less Inv-loop μ-loop
-loop-less c = omega (arith, c .before .loop-test .taken, c .before .before .loop .inv .0)
+loop-less c = omega (arith, c .before .loop-test .taken, c .before .before .loop .inv .long)
 
 loop-again : tie.Need-loop-again Inv-loop μ-loop
 loop-again c =
-    let l = c .before .before in
-    let s = start l in
-    let i = l .loop .i in
-    let h : i < length (now (s .args .values)) = omega (arith, c .before .loop-test .taken, l .loop .inv .0) in (
-      search needs,
-      omega (arith, h, l .loop .inv .0, length-set (l .loop .values) i (c .value-in .result)),
-      ap (λ (v : ℕ). take (i + 1) (set (l .loop .values) i v)) (c .value-in .ensures ∙ sym (getD-tab (Value s) (length (now (s .args .values))) i 0 h))
-          ∙ fill-next (l .loop .values) (Values s) i (c .before .loop-test .taken) (omega (arith, h, length-tab (Value s) (length (now (s .args .values))))) (l .loop .inv .2),
-    )
+    let i = c .before in
+    let l = i .before in
+    let next = begun-next (Value (start l)) (now (start l .args .values)) (l .loop .values) (l .loop .filled) (l .loop .i) (l .loop .inv) (i .loop-test .taken) in
+    ⊎-elim
+    (λ w.
+    let f = w .3 in
+    rw (w .7, w .8) (next (f .last .1 .1 .1 .1 .1 .1 .1 .1 .1 .1 .1 .1 .1 .1 .1 .0) (f .last .1 .1 .1 .1 .1 .1 .1 .1 .1 .1 .1 .1 .1 .1 .1 .1 .0) (f .kept .1 .1 .1 .1 .1 .1 .1 .1 .1 .1 .1 .1 .1 .1 .1 .0) (f .kept .1 .1 .1 .1 .1 .1 .1 .1 .1 .1 .1 .1 .1 .1 .1 .1 .0) (f .ensures .0) (f .ensures .1)))
+    (λ w. rw (w .1, w .2) (next (l .loop .values) (l .loop .filled) refl refl (λ r. r) (w .0 .left, λ x e. e)))
+    (c .if1 .came)
 
 same-length : tie.Need-same-length Inv-loop μ-loop
-same-length c = search needs
+same-length c = c .before .loop .inv .long
 
 returns : tie.Need-returns Inv-loop μ-loop
 returns c =
     let l = c .before in
-    let s = start l in
-    let n = length-tab (Value s) (length (now (s .args .values))) in
-    let e : l .loop .i ≡ length (l .loop .values) = omega (arith, c .loop-test .left, l .loop .inv .1) in
-    let d : l .loop .i ≡ length (Values s) = omega (arith, e, n, l .loop .inv .0) in
-    sym (take-length (l .loop .values)) ∙ ap (λ (k : ℕ). take k (l .loop .values)) (sym e) ∙ l .loop .inv .2 ∙ ap (λ (k : ℕ). take k (Values s)) d ∙ take-length (Values s)
+    begun-end (Value (start l)) (now (start l .args .values)) (l .loop .values) (l .loop .filled) (l .loop .i) (l .loop .inv) (c .loop-test .left)
 
 pub values-into-spec : {M : Type 1} → statement M
 values-into-spec =
@@ -90,10 +85,9 @@ values-into-spec =
     Inv-loop
     μ-loop
     loop-holds
-    add-value-in
-    value-in-requires
-    mul-values
-    slice-write-values
+    array-read-if1
+    slice-aggregate-fill-from
+    fill-from-requires
     add-i
     loop-less
     loop-again
