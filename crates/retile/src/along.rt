@@ -9,7 +9,7 @@ ghost use Rattle.tiling.specs.Ready.{Ready};
 ghost use Rattle.retile.specs.Rows.{IsAlong, IsRow};
 
 // From so many cells on the tables of a row are worth their making.
-const MANY: u64 = 1024;
+const MANY: u64 = 128;
 
 // A dimension, its places in the two orders, its size, how many elements a coordinate spans, and how many coordinates a row has at most.
 pub struct Along {
