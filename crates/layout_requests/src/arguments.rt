@@ -3,16 +3,14 @@ use crate::Request;
 use layout::Layout;
 use reading::Cursor;
 use reading::List;
-use reading::has_more;
 use reading::read_bounded;
 use reading::read_layout;
+use reading::read_length;
+use reading::read_lengths;
 use reading::read_point;
 use reading::read_shape;
 use reading::read_unsigned;
 use shape::Shape;
-
-// The most places that a buffer has, and as many as it has where the request says nothing.
-const PLACES: u64 = 4096;
 
 // The largest value that a place of a buffer holds.
 const LARGEST: u64 = 4294967295;
@@ -104,31 +102,24 @@ fn with_value(line: &[u8], before: Arguments) -> Arguments {
 
 // The length of both buffers, or the most where the request ends.
 fn with_length(line: &[u8], before: Arguments) -> Arguments {
+    let read = read_length(line, before.next);
+    let next = read.next;
     let mut after = before;
-    after.given = PLACES;
-    after.made = PLACES;
-    if has_more(line, before.next) {
-        let read = read_bounded(line, before.next, PLACES);
-        let next = read.next;
-        after.given = read.value;
-        after.made = read.value;
-        after.next = next;
-    }
+    after.given = read.value;
+    after.made = read.value;
+    after.next = next;
     after
 }
 
 // The lengths of the two buffers, or none.
 fn with_lengths(line: &[u8], before: Arguments) -> Arguments {
-    let first = with_length(line, before);
-    if has_more(line, before.next) {
-        let read = read_bounded(line, first.next, PLACES);
-        let next = read.next;
-        let mut after = first;
-        after.made = read.value;
-        after.next = next;
-        return after;
-    }
-    first
+    let read = read_lengths(line, before.next);
+    let next = read.next;
+    let mut after = before;
+    after.given = read.given;
+    after.made = read.made;
+    after.next = next;
+    after
 }
 
 pub fn read_arguments(line: &[u8], from: Cursor, request: Request) -> Arguments {

@@ -2,6 +2,8 @@
 use crate::arguments::Arguments;
 use layout::Padded;
 use pack::Loaded;
+use reading::fill;
+use reading::front;
 use refusal::Verdict;
 use shape::Counted;
 use shape::Element;
@@ -13,26 +15,6 @@ use writing::wide;
 
 // What a place that the call is to write holds before it.
 const BEFORE: u32 = 7;
-
-// The first places of a buffer, all where there are fewer.
-fn front(buffer: &mut [u32], count: u64) -> &mut [u32] {
-    let n = count as usize;
-    if n <= buffer.len() {
-        return &mut buffer[0..n];
-    }
-    buffer
-}
-
-// Puts start, start + step, .. into the places.
-fn fill(places: &mut [u32], start: u32, step: u32) {
-    let mut next = start;
-    let mut i = 0;
-    while i < places.len() {
-        places[i] = next;
-        next = std::num::wrapping_add_u32(next, step);
-        i += 1;
-    }
-}
 
 // The cells up to the padded size.
 fn cells_up_to(a: Arguments, out: &mut [u8], at: usize, cells: &[u32]) -> usize {

@@ -1,7 +1,13 @@
-// Reading the line of a request: its tokens, and the pieces that they make up. A line is any bytes.
+// Reading the line of a request: its tokens, the pieces that they make up, and the buffers that it lends. A line is any bytes.
+mod buffers;
 mod pieces;
 mod token;
 
+pub use buffers::Lengths;
+pub use buffers::fill;
+pub use buffers::front;
+pub use buffers::read_length;
+pub use buffers::read_lengths;
 pub use pieces::LayoutRead;
 pub use pieces::List;
 pub use pieces::NumbersRead;

@@ -4,8 +4,8 @@ use mathlib.Core.Path.{_≡_}
 use Prim.Native.Nat.{_-_}
 use borrow.Author.Needs.{needs}
 use lib.ListN.{length}
-use Rattle.layout_requests.proofs.buffers.fill.Statement.{statement}
-use Rattle.layout_requests.proofs.buffers.fill.Tie as tie
+use Rattle.reading.proofs.buffers.fill.Statement.{statement}
+use Rattle.reading.proofs.buffers.fill.Tie as tie
 
 abbrev Inv-loop : tie.InvT-loop
 Inv-loop places₀ start step next₀ i₀ places next i = length places ≡ length places₀
