@@ -35,6 +35,7 @@ pub use token::has_more;
 pub use token::is_digit;
 pub use token::is_hyphenated;
 pub use token::is_next;
+pub use token::is_number_before;
 pub use token::is_word;
 pub use token::one_more;
 pub use token::part;

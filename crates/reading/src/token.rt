@@ -180,6 +180,12 @@ pub fn is_number_next(line: &[u8], from: Cursor) -> bool {
     from.ok && (byte == b'-' || is_digit(byte))
 }
 
+// Whether the next token is a number, and the one behind it that byte.
+pub fn is_number_before(line: &[u8], from: Cursor, byte: u8) -> bool {
+    let number = read_number(line, from);
+    is_next(line, number.next, byte)
+}
+
 // Past the next token, which is that byte.
 pub fn expect(line: &[u8], from: Cursor, byte: u8) -> Cursor {
     if !from.ok {

@@ -14,6 +14,7 @@ use reading::Cursor;
 use reading::Word;
 use reading::part;
 use reading::read_word;
+use retile_requests::answer_retile;
 use route_requests::answer_route;
 
 // The answer to a request for an operation's map, or on shapes and layouts.
@@ -34,6 +35,9 @@ pub fn respond(line: &[u8], out: &mut [u8], at: usize) -> usize {
     };
     if same(word, b"route") {
         return answer_route(line, from, out, at);
+    }
+    if same(word, b"retile") {
+        return answer_retile(line, from, out, at);
     }
     if same(word, b"eval") {
         return answer_eval(line, from, out, at);
