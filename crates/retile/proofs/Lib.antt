@@ -6,4 +6,5 @@ pub mod Sided
 pub mod Filling
 pub mod Reading
 pub mod Reach
+pub mod Samples
 pub mod Theorems

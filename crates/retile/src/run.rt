@@ -20,7 +20,7 @@ pub fn least(a: u64, b: u64) -> u64
     if a <= b { a } else { b }
 }
 
-// Settles count cells from the mark on.
+// Settles count cells from the mark on. No multipliers are lent: a row divides only where it begins.
 pub fn run(
     sizes: &[u64],
     p: &[u64],

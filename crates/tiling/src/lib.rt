@@ -19,4 +19,3 @@ pub use physical::reverse_into;
 pub use row::Reach;
 pub use row::row_reach;
 pub use runs::padding_run;
-pub use runs::rest_of;
