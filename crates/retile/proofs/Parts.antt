@@ -14,7 +14,7 @@ use Rattle.retile.proofs.Running.{apply-append, all-length, stores-leng
 use Rattle.retile.proofs.Cuts.{run-mark, stores-join}
 
 -- the same values make the same stores
-stores-alike : (f g : ℕ → ℕ) (n m : ℕ) → ((i : ℕ) → i < n → f (m + i) ≡ g (m + i)) → stores f m n ≡ stores g m n
+pub stores-alike : (f g : ℕ → ℕ) (n m : ℕ) → ((i : ℕ) → i < n → f (m + i) ≡ g (m + i)) → stores f m n ≡ stores g m n
 stores-alike f g zero m h = refl
 stores-alike f g (suc n) m h =
     let z : m + 0 ≡ m = omega arith in
