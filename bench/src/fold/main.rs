@@ -43,12 +43,6 @@ fn ordinary_copy(map: &Rows, out: &mut Rows) -> u64 {
     0
 }
 
-fn rows_of(map: &Record) -> Rows {
-    let mut rows = Rows::EMPTY;
-    map.write(&mut rows);
-    rows
-}
-
 /// Stops where the two versions answer differently.
 fn compare(name: &str, maps: &[Rows]) {
     for (k, map) in maps.iter().enumerate() {
@@ -72,7 +66,7 @@ fn measure(maps: &[Rows], rounds: usize, work: impl Fn(&Rows, &mut Rows) -> u64)
 
 /// Compares the two versions on every map, and measures those that are accepted.
 fn workload(name: &str, maps: &[Record], check: bool) {
-    let all: Vec<Rows> = maps.iter().map(rows_of).collect();
+    let all: Vec<Rows> = maps.iter().map(Record::rows).collect();
     for rows in &all {
         let mut copied = Rows::EMPTY;
         assert!(library_copy(rows, &mut copied) == 0 && copied == *rows, "{name}: rows read and written back");
@@ -134,11 +128,7 @@ fn request(map: &Record) {
 
 fn main() {
     let word = std::env::args().nth(1).unwrap_or_default();
-    let workloads = [
-        ("document 000's reshapes", maps::reshapes()),
-        ("random maps of 40 nodes", (0..600).map(|seed| maps::random(seed, 40, 5)).collect()),
-        ("random maps of 250 nodes", (0..600).map(|seed| maps::random(1000 + seed, 250, 16)).collect()),
-    ];
+    let workloads = maps::workloads();
     match word.as_str() {
         "answer" => answer(),
         "requests" => workloads.iter().flat_map(|(_, maps)| maps).for_each(request),

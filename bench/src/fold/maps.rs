@@ -1,4 +1,4 @@
-// The benchmark's maps: document 000's reshapes as linearise and split write them, and random maps from a seed.
+// The benchmark's maps: document 000's reshapes as linearise and split write them, random maps from a seed, and long sums with large numbers.
 use crate::record::*;
 
 type Tree = Vec<(u8, i64)>;
@@ -56,7 +56,7 @@ fn reshape(from: &[i64], to: &[i64]) -> Record {
 }
 
 /// Document 000's reshapes, both ways: collapse, expand, generic, expanded and collapsed parts, and its chained ones.
-pub fn reshapes() -> Vec<Record> {
+fn reshapes() -> Vec<Record> {
     let pairs: [(&[i64], &[i64]); 5] = [
         (&[4, 8], &[32]),
         (&[32], &[4, 8]),
@@ -114,7 +114,7 @@ fn grow(random: &mut Random, nodes: usize, tree: &mut Tree) {
 }
 
 /// A random map of about so many nodes: its trees have `size` nodes or up to half more.
-pub fn random(seed: u64, nodes: usize, size: usize) -> Record {
+fn random(seed: u64, nodes: usize, size: usize) -> Record {
     let mut random = Random(seed);
     let mut trees: Vec<Tree> = Vec::new();
     let mut left = nodes;
@@ -131,4 +131,46 @@ pub fn random(seed: u64, nodes: usize, size: usize) -> Record {
     let dims: [i64; 4] = std::array::from_fn(|_| bound());
     let ranges: [i64; 2] = std::array::from_fn(|_| bound());
     record(&dims, &ranges, &trees, &constraints)
+}
+
+/// The largest divisor.
+const MAX_DIVISOR: i64 = 1 << 40;
+
+const PRIMES: [i64; 6] = [2, 3, 5, 7, 11, 13];
+
+/// Four floordivs of a sum of 16 variables by a divisor of many small primes; of these primes each coefficient has about half. So there are many greatest
+/// common divisors to try, of large numbers.
+fn long_sums(seed: u64) -> Record {
+    let mut random = Random(seed);
+    let mut primes = Vec::new();
+    let mut divisor = 1;
+    while divisor * PRIMES[5] <= MAX_DIVISOR {
+        primes.push(random.of(&PRIMES));
+        divisor *= primes[primes.len() - 1];
+    }
+    let results: Vec<Tree> = (0..4)
+        .map(|_| {
+            let mut tree = Vec::new();
+            for k in 0..16 {
+                let coefficient: i64 = primes.iter().filter(|_| random.below(2) == 0).product();
+                tree.extend([(VARIABLE, k), (PRODUCT, coefficient)]);
+                if k > 0 {
+                    tree.push((SUM, 0));
+                }
+            }
+            tree.push((FLOORDIV, divisor));
+            tree
+        })
+        .collect();
+    record(&[1023; 8], &[1023; 8], &results, &[])
+}
+
+/// The benchmark's maps by their names.
+pub fn workloads() -> Vec<(&'static str, Vec<Record>)> {
+    vec![
+        ("document 000's reshapes", reshapes()),
+        ("random maps of 40 nodes", (0..600).map(|seed| random(seed, 40, 5)).collect()),
+        ("random maps of 250 nodes", (0..600).map(|seed| random(1000 + seed, 250, 16)).collect()),
+        ("sums of 16 terms, large numbers", (0..600).map(long_sums).collect()),
+    ]
 }

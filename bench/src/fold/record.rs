@@ -82,4 +82,10 @@ impl Record {
         n[112..].copy_from_slice(&self.values);
         rows.kinds = self.kinds;
     }
+
+    pub fn rows(&self) -> Rows {
+        let mut rows = Rows::EMPTY;
+        self.write(&mut rows);
+        rows
+    }
 }

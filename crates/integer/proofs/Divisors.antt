@@ -1,26 +1,29 @@
 -- Laws of the greatest common divisor: Euclid's step, its end, and that there is just one. Assumes nothing.
 use mathlib.Core.Path.{_≡_, refl}
-use Prim.Native.Nat.{ℕ, zero, suc, _%_, _≤_}
+use mathlib.Core.Logic.{_↔_}
+use Prim.Native.Nat.{ℕ, zero, suc, _%_, _≤_, _∣_}
 use native.Mathlib.Nat.{dvd-mod-iff, dvd-refl, dvd-zero, dvd-antisymm, mod-lt}
 use native.Mathlib.Omega.{arith}
 use Rattle.integer.specs.Gcd.{IsGcd, gcdBy, gcdOf}
 
-pub gcd-step : (x y r : ℕ) → IsGcd y (x % y) r → IsGcd x y r
-gcd-step x y r g =
+-- x may give way to z where a divisor of y divides both or neither
+pub gcd-keeps : (x y z r : ℕ) → ((d : ℕ) → d ∣ y → (d ∣ z) ↔ (d ∣ x)) → IsGcd y z r → IsGcd x y r
+gcd-keeps x y z r e g =
     record {
-      left = dvd-mod-iff r (g .left) .0 (g .right);
+      left = e r (g .left) .0 (g .right);
       right = g .left;
-      greatest = λ d p q. g .greatest d q (dvd-mod-iff d q .1 p);
+      greatest = λ d p q. g .greatest d q (e d q .1 p);
     }
 
-pub gcd-last : (x y : ℕ) → y ≡ 0 → IsGcd x y x
+gcd-last : (x y : ℕ) → y ≡ 0 → IsGcd x y x
 gcd-last x y e = rw e (record { left = dvd-refl x; right = dvd-zero x; greatest = λ d p q. p })
 
 by-is : (n a b : ℕ) → b ≤ n → IsGcd a b (gcdBy n a b)
 by-is zero a b h = gcd-last a b (omega arith)
 by-is (suc n) a zero h = gcd-last a 0 refl
 by-is (suc n) a (suc b) h =
-    gcd-step a (suc b) _ (by-is n (suc b) (a % suc b) (omega (arith, mod-lt a {m = suc b} (omega arith))))
+    gcd-keeps a (suc b) (a % suc b) _ (λ d. dvd-mod-iff d)
+    (by-is n (suc b) (a % suc b) (omega (arith, mod-lt a {m = suc b} (omega arith))))
 
 pub gcd-is : (a b : ℕ) → IsGcd a b (gcdOf a b)
 unfolding gcdOf

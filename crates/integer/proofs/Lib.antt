@@ -6,5 +6,6 @@ pub mod Division
 pub mod Signs
 pub mod Limits
 pub mod Divisors
+pub mod Rounds
 pub mod Theorems
 pub mod Samples

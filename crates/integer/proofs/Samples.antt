@@ -7,7 +7,7 @@ use Rattle.integer.specs.declared.Exact.{Exact}
 use Rattle.integer.specs.declared.Exact.the-variants.{Value, Passed}
 use Rattle.integer.specs.Floor.{floorDiv, floorMod}
 use Rattle.integer.specs.Exact.{limit, exactly}
-use Rattle.integer.specs.Gcd.{gcdOf}
+use Rattle.integer.specs.Gcd.{gcdOf, leastRemainder, roundsOf}
 
 -- each value that is computed is the one written beside it
 abbrev pub Agree : {A : Type 0} → List (A × A) → Type 0
@@ -57,3 +57,20 @@ gcdSamples =
 pub gcd-samples : Agree gcdSamples
 unfolding gcdOf
 gcd-samples = refl
+
+-- what is missing, what is left, and neither; rounds with 0, and of the largest two Pell numbers of 64 bits
+abbrev pub roundsSamples : List (ℕ × ℕ)
+roundsSamples =
+    (leastRemainder 18 7, 3)
+    ∷ (leastRemainder 17 7, 3)
+    ∷ (leastRemainder 14 7, 0)
+    ∷ (roundsOf 5 0, 0)
+    ∷ (roundsOf 0 5, 1)
+    ∷ (roundsOf 18 12, 2)
+    ∷ (roundsOf (2 ^ 40) (2 ^ 62), 2)
+    ∷ (roundsOf 4866752642924153522 11749380235262596085, 51)
+    ∷ []
+
+pub rounds-samples : Agree roundsSamples
+unfolding roundsOf
+rounds-samples = refl

@@ -3,8 +3,8 @@ use mathlib.Core.Path.{_≡_, refl, sym, ap, _∙_}
 use mathlib.Core.Bool.{Bool, true, false}
 use mathlib.Core.Logic.{_↔_}
 use mathlib.Core.List.{[], _∷_}
-use Prim.Native.Nat.{ℕ, zero, suc, _+_, _*_, _<_, _≤_, _∣_}
-use native.Mathlib.Nat.{dvd-antisymm, dvd-zero, le-of-dvd}
+use Prim.Native.Nat.{ℕ, zero, suc, _+_, _*_, _<_, _≤_, _^_, _∣_}
+use native.Mathlib.Nat.{dvd-antisymm, dvd-zero, le-of-dvd, mod-le}
 use native.Mathlib.Omega.{arith}
 use lib.Dec.{leb}
 use lib.IntN.{ℤ, pos, negℤ, natAbs, _+ℤ_, _-ℤ_, _*ℤ_, +ℤ-comm, +ℤ-negℤ-cancel}
@@ -13,11 +13,12 @@ use borrow.Author.Tests.{leb-true, leb-false}
 use Rattle.integer.specs.declared.Exact.the-variants.{Value, Passed}
 use Rattle.integer.specs.Floor.{floorDiv, floorMod}
 use Rattle.integer.specs.Exact.{limit, exactly, exactAnswer}
-use Rattle.integer.specs.Gcd.{IsGcd, gcdOf}
+use Rattle.integer.specs.Gcd.{IsGcd, gcdOf, leastRemainder, roundsOf}
 use Rattle.integer.proofs.Linear.{lin, up, dn, add-parts, parts-≤, parts-<}
 use Rattle.integer.proofs.Laws.{*ℤ-distribl, div-mod, mod-low, mod-high, div-unique, mod-unique}
 use Rattle.integer.proofs.Limits.{exact-in, exact-out, exact-one}
 use Rattle.integer.proofs.Divisors.{gcd-is, gcd-unique}
+use Rattle.integer.proofs.Rounds.{least-half, gcd-kept, gcd-ended, rounds-digits, rounds-more, rounds-none}
 
 -- x is c times x floordiv c, plus x mod c.
 pub floor-split : (x : ℤ) (c : ℕ) → 0 < c → x ≡ pos c *ℤ floorDiv x c +ℤ floorMod x c
@@ -99,3 +100,35 @@ gcd-largest a b d h p q = le-of-dvd (positive (gcdOf a b) (gcd-is a b)) (gcd-is 
     positive : (g : ℕ) → IsGcd a b g → 0 < g
     positive zero i = absurd (omega (arith, none a (i .left), none b (i .right)))
     positive (suc g) i = omega arith
+
+-- A round leaves the greatest common divisor as it is.
+pub round-keeps : (a b : ℕ) → 0 < b → gcdOf a b ≡ gcdOf b (leastRemainder a b)
+round-keeps a b h = gcd-kept a b h
+
+-- A round at least halves b.
+pub round-halves : (a b : ℕ) → 0 < b → 2 * leastRemainder a b ≤ b
+round-halves a b h = omega (arith, least-half a b h)
+
+-- Each round counts once, and they end exactly where b is 0; then a is the greatest common divisor.
+pub rounds-counted : (a b : ℕ)
+    → (0 < b → roundsOf a b ≡ suc (roundsOf b (leastRemainder a b)))
+    × (roundsOf a b ≡ 0 → (b ≡ 0) × (gcdOf a b ≡ a))
+rounds-counted a b = (rounds-more a b, λ e. let z = rounds-none a b e in (z, sym (gcd-ended a b _ z refl)))
+
+-- A number of k binary digits in the second place takes at most k rounds, whatever the first is.
+pub rounds-at-most : (k a b : ℕ) → b < 2 ^ k → roundsOf a b ≤ k
+rounds-at-most k a b h = rounds-digits k a b h
+
+-- So two numbers below 2^64 take at most 64 rounds; the first one's size does not matter.
+pub rounds-64 : (a b : ℕ) → b < 2 ^ 64 → roundsOf a b ≤ 64
+rounds-64 a b h = rounds-digits 64 a b h
+
+-- A divisor of at most 2^40 takes at most 42 rounds with any other number, and 41 in the second place.
+pub rounds-divisor : (c k : ℕ) → c ≤ 2 ^ 40 → (roundsOf c k ≤ 42) × (roundsOf k c ≤ 41)
+rounds-divisor c k h = (first k, rounds-digits 41 k c (omega arith))
+  where
+    first : (n : ℕ) → roundsOf c n ≤ 42
+    first zero = rounds-digits 42 c 0 (omega arith)
+    first (suc n) =
+        let r = rounds-digits 41 (suc n) (leastRemainder c (suc n)) (omega (arith, mod-le c (suc n))) in
+        omega (arith, rounds-more c (suc n) (omega arith))

@@ -1,14 +1,17 @@
 // Signed 64-bit numbers: floor division and its remainder, exact sums and products within +-2^62, the greatest common divisor.
 ghost use mathlib.Core.Path.{_≡_};
-ghost use Prim.Native.Nat.{_≤_};
+ghost use Prim.Native.Nat.{_<_, _≤_};
 ghost use lib.IntN.{pos, natAbs, _+ℤ_, _*ℤ_};
 ghost use lib.Signed.{_<ℤ_};
 ghost use Rattle.integer.specs.Floor.{floorDiv, floorMod};
 ghost use Rattle.integer.specs.Exact.{limit, exactly, signOf};
-ghost use Rattle.integer.specs.Gcd.{gcdOf};
+ghost use Rattle.integer.specs.Gcd.{gcdOf, leastRemainder};
 
 // The largest magnitude of exact working, 2^62.
 pub const LIMIT: i64 = 1 << 62;
+
+// The most rounds of a greatest common divisor.
+const MAX_ROUNDS: u64 = 64;
 
 // An exact result, or that it passes the limit.
 pub enum Exact {
@@ -103,16 +106,28 @@ pub fn exact_mul(a: i64, b: i64) -> Exact
     Exact::Value(with_sign(negative, x * y))
 }
 
-// The greatest common divisor of a and b; of 0 and 0 it is 0.
+// The least absolute remainder of x by y: the smaller of what is left and what is missing to y.
+fn least_remainder(x: u64, y: u64) -> u64
+    requires { ⌜ 0 < y ⌝ }
+    ensures { λ r. ⌜ r ≡ leastRemainder x y ⌝ }
+{
+    let t = x % y;
+    let missing = y - t;
+    if t < missing { t } else { missing }
+}
+
+// The greatest common divisor of a and b; of 0 and 0 it is 0. By least absolute remainders, one division a round.
 pub fn gcd(a: u64, b: u64) -> u64
     ensures { λ r. ⌜ r ≡ gcdOf a b ⌝ }
 {
     let mut x = a;
     let mut y = b;
-    while y != 0 {
-        let t = x % y;
+    let mut round: u64 = 0;
+    while round < MAX_ROUNDS && y != 0 {
+        let rest = least_remainder(x, y);
         x = y;
-        y = t;
+        y = rest;
+        round += 1;
     }
     x
 }
