@@ -136,32 +136,19 @@ fn random(seed: u64, nodes: usize, size: usize) -> Record {
 /// The largest divisor.
 const MAX_DIVISOR: i64 = 1 << 40;
 
-const PRIMES: [i64; 6] = [2, 3, 5, 7, 11, 13];
-
-/// Four floordivs of a sum of 16 variables by a divisor of many small primes; of these primes each coefficient has about half. So there are many greatest
-/// common divisors to try, of large numbers.
+/// Four floordivs of sums of 16 variables, whose coefficients and divisors are any numbers up to 2^40: greatest common divisors of large numbers.
 fn long_sums(seed: u64) -> Record {
     let mut random = Random(seed);
-    let mut primes = Vec::new();
-    let mut divisor = 1;
-    while divisor * PRIMES[5] <= MAX_DIVISOR {
-        primes.push(random.of(&PRIMES));
-        divisor *= primes[primes.len() - 1];
-    }
-    let results: Vec<Tree> = (0..4)
-        .map(|_| {
-            let mut tree = Vec::new();
-            for k in 0..16 {
-                let coefficient: i64 = primes.iter().filter(|_| random.below(2) == 0).product();
-                tree.extend([(VARIABLE, k), (PRODUCT, coefficient)]);
-                if k > 0 {
-                    tree.push((SUM, 0));
-                }
-            }
-            tree.push((FLOORDIV, divisor));
-            tree
-        })
-        .collect();
+    let mut number = || 1 + random.below(MAX_DIVISOR as u64) as i64;
+    let mut result = |_| {
+        let mut tree = vec![(VARIABLE, 0), (PRODUCT, number())];
+        for k in 1..16 {
+            tree.extend([(VARIABLE, k), (PRODUCT, number()), (SUM, 0)]);
+        }
+        tree.push((FLOORDIV, number()));
+        tree
+    };
+    let results: Vec<Tree> = (0..4).map(&mut result).collect();
     record(&[1023; 8], &[1023; 8], &results, &[])
 }
 

@@ -1,7 +1,7 @@
 -- Laws of a round by the least absolute remainder, and of the number of rounds. Assumes nothing.
 use mathlib.Core.Path.{_≡_, refl, ap}
 use mathlib.Core.Logic.{_↔_}
-use Prim.Native.Nat.{ℕ, zero, suc, _+_, _-_, _%_, _^_, _<_, _≤_, _∣_}
+use Prim.Native.Nat.{ℕ, zero, suc, _-_, _*_, _%_, _^_, _<_, _≤_, _∣_}
 use native.Mathlib.Decide.{decLt}
 use native.Mathlib.Nat.{mod-lt, dvd-mod-iff, dvd-sub-iff-right, min-eq-left, min-eq-right, two-pow-succ}
 use native.Mathlib.Omega.{arith}
@@ -9,8 +9,8 @@ use Rattle.integer.specs.Gcd.{gcdOf, leastRemainder, roundsBy, roundsOf}
 use Rattle.integer.proofs.Divisors.{gcd-keeps, gcd-is, gcd-unique}
 
 module _ (x y : ℕ) (h : 0 < y) where
-  -- it is at most half of y
-  pub least-half : leastRemainder x y + leastRemainder x y ≤ y
+  -- the least absolute remainder is at most half of y
+  pub least-half : 2 * leastRemainder x y ≤ y
   least-half = omega (arith, mod-lt x h)
 
   -- a divisor of y divides it where it divides x
@@ -37,7 +37,7 @@ by-digits (suc n) (suc k) a (suc b) h =
     let r = by-digits n k (suc b) (leastRemainder a (suc b)) (omega (arith, least-half a (suc b) (omega arith), two-pow-succ k)) in
     omega arith
 
--- b rounds are enough to count
+-- however many are counted, if at least b
 by-enough : (n m a b : ℕ) → b ≤ n → b ≤ m → roundsBy n a b ≡ roundsBy m a b
 by-enough zero zero a b h k = refl
 by-enough zero (suc m) a zero h k = refl
@@ -49,10 +49,12 @@ by-enough (suc n) (suc m) a (suc b) h k =
     let l = least-half a (suc b) (omega arith) in
     ap suc (by-enough n m (suc b) (leastRemainder a (suc b)) (omega arith) (omega arith))
 
+-- the same of all rounds
 pub rounds-digits : (k a b : ℕ) → b < 2 ^ k → roundsOf a b ≤ k
 unfolding roundsOf
 rounds-digits k a b h = by-digits b k a b h
 
+-- one more than the pair that goes on
 pub rounds-more : (a b : ℕ) → 0 < b → roundsOf a b ≡ suc (roundsOf b (leastRemainder a b))
 unfolding roundsOf
 rounds-more a zero h = absurd (omega arith)

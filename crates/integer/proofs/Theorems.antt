@@ -18,7 +18,7 @@ use Rattle.integer.proofs.Linear.{lin, up, dn, add-parts, parts-≤, pa
 use Rattle.integer.proofs.Laws.{*ℤ-distribl, div-mod, mod-low, mod-high, div-unique, mod-unique}
 use Rattle.integer.proofs.Limits.{exact-in, exact-out, exact-one}
 use Rattle.integer.proofs.Divisors.{gcd-is, gcd-unique}
-use Rattle.integer.proofs.Rounds.{least-half, gcd-kept, gcd-ended, rounds-digits, rounds-more, rounds-none}
+use Rattle.integer.proofs.Rounds.{least-half, gcd-kept, rounds-digits, rounds-more}
 
 -- x is c times x floordiv c, plus x mod c.
 pub floor-split : (x : ℤ) (c : ℕ) → 0 < c → x ≡ pos c *ℤ floorDiv x c +ℤ floorMod x c
@@ -107,13 +107,16 @@ round-keeps a b h = gcd-kept a b h
 
 -- A round at least halves b.
 pub round-halves : (a b : ℕ) → 0 < b → 2 * leastRemainder a b ≤ b
-round-halves a b h = omega (arith, least-half a b h)
+round-halves a b h = least-half a b h
 
--- Each round counts once, and they end exactly where b is 0; then a is the greatest common divisor.
-pub rounds-counted : (a b : ℕ)
-    → (0 < b → roundsOf a b ≡ suc (roundsOf b (leastRemainder a b)))
-    × (roundsOf a b ≡ 0 → (b ≡ 0) × (gcdOf a b ≡ a))
-rounds-counted a b = (rounds-more a b, λ e. let z = rounds-none a b e in (z, sym (gcd-ended a b _ z refl)))
+-- A pair takes one round more than the pair that goes on.
+pub rounds-counted : (a b : ℕ) → 0 < b → roundsOf a b ≡ suc (roundsOf b (leastRemainder a b))
+rounds-counted a b h = rounds-more a b h
+
+-- Where b is 0 no round is left, and a is the greatest common divisor.
+pub rounds-ended : (a : ℕ) → (roundsOf a 0 ≡ 0) × (gcdOf a 0 ≡ a)
+unfolding roundsOf gcdOf
+rounds-ended a = (refl, refl)
 
 -- A number of k binary digits in the second place takes at most k rounds, whatever the first is.
 pub rounds-at-most : (k a b : ℕ) → b < 2 ^ k → roundsOf a b ≤ k
