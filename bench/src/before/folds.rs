@@ -58,7 +58,8 @@ fn all(fold: Fold, maps: &[Rows]) {
 
 fn row(name: &str, maps: &[Rows]) {
     compare(name, maps);
-    let times = in_turn(ROUNDS, &mut [&mut || all(now, maps), &mut || all(before, maps), &mut || all(plain, maps), &mut || all(before, maps)]);
+    let mut runs: [&mut dyn FnMut(); 4] = [&mut || all(now, maps), &mut || all(before, maps), &mut || all(plain, maps), &mut || all(before, maps)];
+    let times = in_turn(ROUNDS, &mut runs);
     let [library, earlier, plain, again] = &times[..] else { unreachable!() };
     let each = |seconds: f64| seconds * 1e6 / maps.len() as f64;
     println!(

@@ -1,4 +1,4 @@
-// The benchmark's maps: document 000's reshapes as linearise and split write them, random maps from a seed, and long sums with large numbers.
+// The benchmark's maps: document 000's reshapes as linearise and split write them, random maps from a seed, and long sums.
 use crate::record::*;
 
 type Tree = Vec<(u8, i64)>;
@@ -136,7 +136,7 @@ fn random(seed: u64, nodes: usize, size: usize) -> Record {
 /// The largest divisor.
 const MAX_DIVISOR: i64 = 1 << 40;
 
-/// Four floordivs of sums of 16 variables, whose coefficients and divisors are any numbers up to 2^40: greatest common divisors of large numbers.
+/// Four floordivs of sums of 16 variables; coefficients and divisors are any numbers from 1 to 2^40.
 fn long_sums(seed: u64) -> Record {
     let mut random = Random(seed);
     let mut number = || 1 + random.below(MAX_DIVISOR as u64) as i64;

@@ -1,4 +1,4 @@
-// The benchmark's pairs: divisors with the sizes of coefficients, from fixed seeds, and the pairs that take the most rounds.
+// The benchmark's pairs: divisors with the sizes of coefficients, from fixed seeds, and neighbouring Fibonacci and Pell numbers.
 use crate::shared::cases::Random;
 
 /// Pairs in a row of a table.
@@ -24,9 +24,9 @@ fn many(name: &'static str, seed: u64, pair: impl Fn(&mut Random) -> (u64, u64))
     Workload { name, pairs: (0..COUNT).map(|_| pair(&mut random)).collect() }
 }
 
-/// The greatest pairs of 64 bits, the smaller number first, of the numbers that grow by next = times * last + the one before: of all pairs below them these take Euclid's
-/// algorithm the most rounds (times = 1, Fibonacci) and the one by least absolute remainders (times = 2, Pell).
-fn longest(name: &'static str, times: u64) -> Workload {
+/// The two largest u64 of a sequence that grows by next = times * last + the one before, the smaller first. Fibonacci numbers (times = 1) take many of
+/// Euclid's rounds, Pell numbers (times = 2) many by least absolute remainders.
+fn neighbours(name: &'static str, times: u64) -> Workload {
     let (mut last, mut next) = (1u64, times);
     let grown = |last: u64, next: u64| next.checked_mul(times)?.checked_add(last);
     while let Some(n) = grown(last, next) {
@@ -41,7 +41,7 @@ pub fn workloads() -> Vec<Workload> {
         many("the same of random length", 2, |r| (short(r, 1, 40), short(r, 0, 62))),
         many("divisors to 2^10, coefficients to 2^20", 3, |r| (short(r, 1, 10), short(r, 0, 20))),
         many("any two u64", 4, |r| (r.below(u64::MAX), r.below(u64::MAX))),
-        longest("Fibonacci numbers of 64 bits", 1),
-        longest("Pell numbers of 64 bits", 2),
+        neighbours("Fibonacci numbers of 64 bits", 1),
+        neighbours("Pell numbers of 64 bits", 2),
     ]
 }

@@ -26,7 +26,9 @@ module _ (x y : ℕ) (h : 0 < y) where
 
   -- a round keeps the greatest common divisor
   pub gcd-kept : gcdOf x y ≡ gcdOf y (leastRemainder x y)
-  gcd-kept = gcd-unique x y _ _ (gcd-is x y) (gcd-keeps x y (leastRemainder x y) _ least-divided (gcd-is y (leastRemainder x y)))
+  gcd-kept =
+      let r = leastRemainder x y in
+      gcd-unique x y _ _ (gcd-is x y) (gcd-keeps x y r _ least-divided (gcd-is y r))
 
 -- the rounds are at most the binary digits of b
 by-digits : (n k a b : ℕ) → b < 2 ^ k → roundsBy n a b ≤ k
@@ -34,7 +36,8 @@ by-digits zero k a b h = omega arith
 by-digits (suc n) k a zero h = omega arith
 by-digits (suc n) zero a (suc b) h = absurd (omega arith)
 by-digits (suc n) (suc k) a (suc b) h =
-    let r = by-digits n k (suc b) (leastRemainder a (suc b)) (omega (arith, least-half a (suc b) (omega arith), two-pow-succ k)) in
+    let l = least-half a (suc b) (omega arith) in
+    let r = by-digits n k (suc b) (leastRemainder a (suc b)) (omega (arith, two-pow-succ k)) in
     omega arith
 
 -- however many are counted, if at least b

@@ -48,8 +48,9 @@ returns c =
 
 returns-2 : tie.Need-returns-2 Inv-loop μ-loop
 returns-2 c =
+    let s = c .before .before in
     let p = c .before .loop in
-    let over = rounds-digits 64 (c .before .before .args .a) (c .before .before .args .b) (omega (arith, c .before .before .fits .b .fits)) in
+    let l = rounds-digits 64 (s .args .a) (s .args .b) (omega (arith, s .fits .b .fits)) in
     gcd-ended (p .x) (p .y) _ (rounds-none (p .x) (p .y) (omega (arith, p .inv .1))) (p .inv .0)
 
 pub gcd-spec : {M : Type 1} → statement M
