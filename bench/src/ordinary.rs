@@ -28,29 +28,38 @@ pub fn route(stations: &[Vec<Layout>], moves: usize) -> Option<Route> {
         for a in 0..stations[i].len() {
             let moved: Vec<bool> = stations[i + 1].iter().map(|b| *b != stations[i][a]).collect();
             for m in 0..=moves {
-                least[i][a][m] = (0..moved.len()).filter_map(|b| through(&sizes[i + 1], &least[i + 1], moved[b], b, m)).min();
+                least[i][a][m] = (0..moved.len())
+                    .filter_map(|b| through(sizes[i][a], &sizes[i + 1], &least[i + 1], moved[b], b, m))
+                    .min();
             }
         }
     }
-    let still = vec![false; stations[0].len()];
-    let total = (0..still.len()).filter_map(|b| through(&sizes[0], &least[0], false, b, moves)).min()?;
+    let total = (0..stations[0].len()).filter_map(|b| through(0, &sizes[0], &least[0], false, b, moves)).min()?;
     Some(Route { places: walk(stations, &sizes, &least, total, moves), total })
 }
 
-fn through(sizes: &[u64], rest: &[Vec<Option<u64>>], moved: bool, b: usize, m: usize) -> Option<u64> {
+/// A move costs the padded size of both layouts.
+fn price(moved: bool, earlier: u64, later: u64) -> u64 {
+    moved as u64 * (earlier + later)
+}
+
+fn through(earlier: u64, sizes: &[u64], rest: &[Vec<Option<u64>>], moved: bool, b: usize, m: usize) -> Option<u64> {
     let left = m.checked_sub(moved as usize)?;
-    Some(sizes[b] * (1 + moved as u64) + rest[b][left]?)
+    Some(sizes[b] + price(moved, earlier, sizes[b]) + rest[b][left]?)
 }
 
 /// The places of the plan, the smallest that has the least cost at each station.
 fn walk(stations: &[Vec<Layout>], sizes: &[Vec<u64>], least: &[Vec<Vec<Option<u64>>>], total: u64, moves: usize) -> Vec<usize> {
     let mut places: Vec<usize> = Vec::new();
-    let (mut left, mut cost) = (moves, total);
+    let (mut left, mut cost, mut earlier) = (moves, total, 0);
     for i in 0..stations.len() {
         let moved = |b: usize| i > 0 && stations[i][b] != stations[i - 1][places[i - 1]];
-        let b = (0..stations[i].len()).find(|&b| through(&sizes[i], &least[i], moved(b), b, left) == Some(cost)).unwrap();
-        cost -= sizes[i][b] * (1 + moved(b) as u64);
+        let b = (0..stations[i].len())
+            .find(|&b| through(earlier, &sizes[i], &least[i], moved(b), b, left) == Some(cost))
+            .unwrap();
+        cost -= sizes[i][b] + price(moved(b), earlier, sizes[i][b]);
         left -= moved(b) as usize;
+        earlier = sizes[i][b];
         places.push(b);
     }
     places

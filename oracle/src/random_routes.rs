@@ -33,7 +33,7 @@ impl RouteDraft {
         }
     }
 
-    fn text(&self) -> String {
+    pub fn text(&self) -> String {
         let station_text = |station: &Vec<Draft>| {
             let layouts: Vec<String> = station.iter().map(layout_text).collect();
             layouts.join(" ")
@@ -61,7 +61,7 @@ pub fn random_route_line(random: &mut Random) -> Vec<u8> {
 }
 
 /// A small route that breaks no rule, for comparing with every plan.
-pub fn small_route(random: &mut Random) -> Route {
+pub fn small_route(random: &mut Random) -> RouteDraft {
     loop {
         let sizes = random_draft(random, true).sizes;
         let stations = stations(random, &sizes, 6, 4);
@@ -76,7 +76,7 @@ pub fn small_route(random: &mut Random) -> Route {
             best_plan(&draft.route()),
             Err(Refusal::Shape | Refusal::Limit | Refusal::Layout | Refusal::PaddedSize)
         ) {
-            return draft.route();
+            return draft;
         }
     }
 }

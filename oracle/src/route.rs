@@ -123,7 +123,8 @@ fn onward(
     costs.min()
 }
 
-/// The cost and the number of moves between a place at the station before and a place at a station.
+/// The cost and the number of moves between a place at the station before and a place at a station. A move costs
+/// the padded size of both layouts.
 fn step(
     route: &Route,
     padded: &[Vec<u64>],
@@ -134,5 +135,5 @@ fn step(
     if route.stations[station - 1][before] == route.stations[station][place] {
         return (0, 0);
     }
-    (padded[station][place], 1)
+    (padded[station - 1][before] + padded[station][place], 1)
 }

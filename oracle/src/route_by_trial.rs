@@ -3,8 +3,16 @@
 use crate::refusal::Refusal;
 use crate::route::{judged_sizes, Plan, Route};
 
-/// The first plan of least cost among all that keep both limits.
+/// What a move costs, from the padded sizes of the earlier and of the later layout.
+pub type Price = fn(u64, u64) -> u64;
+
+/// The first plan of least cost among all that keep both limits. A move reads and writes (document 02, Q-4).
 pub fn plan_by_trial(route: &Route) -> Result<Plan, Refusal> {
+    plan_at_price(route, |earlier, later| earlier + later)
+}
+
+/// The same where a move costs something else.
+pub fn plan_at_price(route: &Route, price: Price) -> Result<Plan, Refusal> {
     let padded = judged_sizes(route)?;
     let mut best: Option<Plan> = None;
     let mut places = vec![0; padded.len()];
@@ -13,7 +21,7 @@ pub fn plan_by_trial(route: &Route) -> Result<Plan, Refusal> {
         let moves: Vec<usize> = (1..places.len())
             .filter(|k| moves(route, &places, *k))
             .collect();
-        let moved: u64 = moves.iter().map(|k| sizes[*k]).sum();
+        let moved: u64 = moves.iter().map(|&k| price(sizes[k - 1], sizes[k])).sum();
         let total = sizes.iter().sum::<u64>() + moved;
         let admitted = sizes.iter().all(|size| *size <= route.cell_limit)
             && moves.len() as u64 <= route.move_limit;

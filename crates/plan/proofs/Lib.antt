@@ -1,3 +1,4 @@
+pub mod Bounds
 pub mod Optimal
 pub mod Scan
 pub mod Alike

@@ -1,16 +1,17 @@
 -- The recursive definition gives the best plan: the induction over the stations. Assumes nothing.
-use Prim.Native.Nat.{ℕ, zero, suc, _+_, _*_, _-_, _^_, _≤_, zero-le, _<_, min}
+use Prim.Native.Nat.{ℕ, zero, suc, _+_, _*_, _-_, _≤_, _<_, min}
 use mathlib.Core.Path.{_≡_, refl, sym, ap, subst, _∙_}
 use mathlib.Core.Logic.{_⊎_, inl, inr, ⊎-elim}
 use mathlib.Core.Bool.{Bool, true, false}
 use mathlib.Core.List.{List, [], _∷_}
 use native.Mathlib.Omega.{arith}
-use native.Mathlib.Nat.{eq-or-lt-of-le, mul-le-mul-right}
+use native.Mathlib.Nat.{eq-or-lt-of-le}
 use native.Mathlib.Decide.{decLt}
 use borrow.Author.Tests.{ltb-true, ltb-false, leb-true, le-leb}
 use lib.Dec.{leb, ltb}
-use Rattle.plan.specs.Net.{Net, Coming, price, still, after, Keeps, movesOf, costOf, Before, Admitted, Best}
+use Rattle.plan.specs.Net.{Net, Coming, still, after, Keeps, movesOf, costOf, Before, Admitted, Best}
 use Rattle.plan.specs.Value.{far, pick, leastOf, placeOf, through, valueOf, choice, planOf, leastCost, bestPlan}
+use Rattle.plan.proofs.Bounds.{Small, cost-190}
 
 -- The least of a function below n.
 pub least-cap : (n : ℕ) (f : ℕ → ℕ) → leastOf n f ≤ far
@@ -209,45 +210,6 @@ module _ (N : Net) where
       w : Open (N .cells) m (N .size i) from (rest k i m from) a
       w = through-open (N .cells) m (N .size i) from (rest k i m from) a (omega (arith, hit .1))
 
--- a price is at most both sizes
-pub price-low : (earlier later : ℕ) → price earlier later ≤ earlier + later
-unfolding price
-price-low earlier later = omega arith
-
--- a product by at most one
-pub at-most : (x y : ℕ) → x ≤ 1 → x * y ≤ y
-at-most x y l = omega (arith, mul-le-mul-right y l)
-
--- Where a move is at most one and the cell limit is at most 2^40, a plan for k stations costs at most k * 2^42.
-pub record Small (N : Net) : Type 0 where
-  pub cells : N .cells ≤ 2 ^ 40
-  pub moved : (i a b : ℕ) → N .moved i a b ≤ 1
-
-cost-small :
-    (N : Net) →
-    Small N →
-    (k i : ℕ) (from : Coming) →
-    ((b : ℕ) → from .moves b ≤ 1) →
-    ((b : ℕ) → N .size i b ≤ N .cells → from .price b ≤ 2 ^ 41) →
-    (p : List ℕ) →
-    Keeps N k i p →
-    costOf N i from p ≤ 2 ^ 42 * k
-unfolding Keeps costOf
-cost-small N s zero i from f g [] h = omega arith
-cost-small N s zero i from f g (b ∷ p) h = absurd h
-cost-small N s (suc k) i from f g [] h = absurd h
-cost-small N s (suc k) i from f g (b ∷ p) h =
-    omega (
-      arith,
-      s .cells,
-      cost-small N s k (i + 1) (after N i b) (s .moved i b)
-          (λ c w. omega (arith, price-low (N .size i b) (N .size (i + 1) c), s .cells, h .1))
-          p
-          (h .2),
-      g b (h .1),
-      at-most (from .moves b) (from .price b) (f b),
-    )
-
 -- Where the least cost is `far`, no plan is admitted.
 pub none-admitted :
     (N : Net) (moves : ℕ) → Small N → N .stations ≤ 64 → far ≤ leastCost N moves → (p : List ℕ) → Admitted N moves p → ⊥
@@ -255,7 +217,7 @@ none-admitted N moves s n v p a =
     omega (
       arith,
       value-le N (N .stations) 0 moves still p (a .keeps) (a .within),
-      cost-small N s (N .stations) 0 still (λ b. zero-le) (λ b l. zero-le) p (a .keeps),
+      cost-190 N s n moves p a,
     )
 
 -- Where it is below, the plan is the best, and it is its cost.

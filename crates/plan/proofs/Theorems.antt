@@ -1,12 +1,13 @@
 -- The theorems of the planner: its answer is the best plan, and there is one best plan only. Assumes nothing.
-use Prim.Native.Nat.{ℕ, _≤_, _<_}
+use Prim.Native.Nat.{ℕ, _+_, _*_, _^_, _≤_, _<_}
 use mathlib.Core.Path.{_≡_, sym, ap, _∙_}
 use mathlib.Core.Logic.{⊎-elim}
 use mathlib.Core.List.{List, [], _∷_}
 use native.Mathlib.Omega.{arith}
-use Rattle.plan.specs.Net.{Net, planCost, Before, Admitted, Best}
+use Rattle.plan.specs.Net.{Net, still, movesOf, planCost, Before, Admitted, Best}
 use Rattle.plan.specs.Value.{far, leastCost, bestPlan}
-use Rattle.plan.proofs.Optimal.{Small, found, none-admitted}
+use Rattle.plan.proofs.Bounds.{Small, cost-most, cost-190}
+use Rattle.plan.proofs.Optimal.{found, none-admitted}
 
 -- Where the least cost is below `far`, the plan is the best one, and the least cost is its cost.
 pub best-found : (N : Net) (moves : ℕ) → leastCost N moves < far → Best N moves (leastCost N moves) (bestPlan N moves)
@@ -16,6 +17,18 @@ best-found = found
 pub none-found :
     (N : Net) (moves : ℕ) → Small N → N .stations ≤ 64 → far ≤ leastCost N moves → (p : List ℕ) → Admitted N moves p → ⊥
 none-found = none-admitted
+
+-- A plan costs at most the cell limit for each station, and twice the cell limit for each move.
+pub cost-bound :
+    (N : Net) (moves : ℕ) (p : List ℕ) →
+    Admitted N moves p →
+    planCost N p ≤ N .stations * N .cells + movesOf N 0 still p * (2 * N .cells)
+cost-bound = cost-most
+
+-- So it costs at most 190 * 2^40, which is below `far`: 2^40 for each of 64 stations, and twice 2^40 for each of 63 moves.
+pub cost-at-most :
+    (N : Net) → Small N → N .stations ≤ 64 → (moves : ℕ) (p : List ℕ) → Admitted N moves p → planCost N p ≤ 190 * 2 ^ 40
+cost-at-most = cost-190
 
 before-asym : (p q : List ℕ) → Before p q → Before q p → ⊥
 unfolding Before

@@ -4,9 +4,9 @@ use mathlib.Core.Path.{_≡_}
 use mathlib.Core.Logic.{_⊎_}
 use mathlib.Core.List.{List, [], _∷_}
 
--- the price of a move, from the earlier and the later padded size
+-- the price of a move: the padded size of both layouts, the earlier and the later
 unfoldable pub price : ℕ → ℕ → ℕ
-price earlier later = later
+price earlier later = earlier + later
 
 -- `stations` stations, each with `count i` places; `size i a` is the padded size of place a of station i; `moved i a b` is 1 where
 -- the layouts of place a of station i and of place b of station i + 1 differ as written, else 0; `cells` is the cell limit

@@ -31,12 +31,12 @@ pub struct Plan {
     pub total: u64,
 }
 
-// The price of a move, from the earlier and the later padded size.
+// The price of a move: the earlier padded size is read, the later one written.
 fn move_price(earlier: u64, later: u64) -> u64
     requires { ⌜ (earlier ≤ 2 ^ 41) × (later ≤ 2 ^ 40) ⌝ }
     ensures { λ r. ⌜ r ≡ price earlier later ⌝ }
 {
-    later
+    earlier + later
 }
 
 // The cost from place b of a station on, or FAR where b breaks a limit.

@@ -3,7 +3,7 @@ use mathlib.Core.Path.{_≡_, refl, sym, ap, _∙_}
 use mathlib.Core.Bool.{Bool, true, false, cond}
 use mathlib.Core.Logic.{_⊎_}
 use mathlib.Core.List.{List, [], _∷_, _++_}
-use Prim.Native.Nat.{ℕ, _+_, _≤_}
+use Prim.Native.Nat.{ℕ, _+_, _*_, _^_, _≤_}
 use native.Mathlib.Omega.{arith}
 use borrow.Author.Tests.{ltb-true, ltb-false}
 use Rattle.refusal.specs.Number.{Answer, done, refusal}
@@ -16,8 +16,8 @@ use Rattle.layout.specs.declared.Layout.{Layout}
 use Rattle.plan.specs.Net.{Net, planCost, Before, Admitted, Best}
 use Rattle.plan.specs.Value.{hasPlan}
 use Rattle.plan.specs.Answer.{spread}
-use Rattle.plan.proofs.Optimal.{Small}
-use Rattle.plan.proofs.Theorems.{best-found, none-found, best-one}
+use Rattle.plan.proofs.Bounds.{Small}
+use Rattle.plan.proofs.Theorems.{best-found, none-found, cost-at-most, best-one}
 use Rattle.route.specs.Same.{sameLayout, moveOf}
 use Rattle.route.specs.Stations.{stationAt, layoutAt, netOf}
 use Rattle.route.specs.Route.{routeRules, breaksNoRule, routeZeros, routePlan, routeValues, routeOf}
@@ -136,3 +136,7 @@ module _ (s : Shape) (ys : List Station) (number cells moves : ℕ) (clean : bre
     -- So the answer is the only one that the rules allow.
     pub only-answer : (q : List ℕ) (total : ℕ) → Best net moves total q → (q ≡ plan) × (total ≡ planCost net plan)
     only-answer q total b = best-one net moves total (planCost net plan) q plan b best
+
+    -- The total is at most 190 * 2^40: 2^40 for each of 64 stations, and twice 2^40 for each of 63 moves.
+    pub total-at-most : planCost net plan ≤ 190 * 2 ^ 40
+    total-at-most = cost-at-most net small (unbroken s ys number cells moves clean .limits .few) moves plan plan-admitted

@@ -108,8 +108,8 @@ samples =
     ∷ hands-out (inputToOutputAnswer (Operation.slice (cube 10 20 50) (5 ∷ 3 ∷ 0 ∷ []) (10 ∷ 20 ∷ 50 ∷ []) (1 ∷ 7 ∷ 2 ∷ []))) sliceMap
     -- [4,8] to [2,4,4], output to input: (d0 * 2 + d1 floordiv 2, d2 + (d1 mod 2) * 4)
     ∷ hands-out (outputToInputAnswer (Operation.reshape (matrix 4 8) (cube 2 4 4))) splitMap
-    -- [3,5] at stations [A,T], [T,A], [T]: K = 1 gives places 0,1,0, total 2,078; K = 0 gives 1,0,0, total 3,072
-    ∷ says (through (matrix 3 5) (station (A ∷ T ∷ []) ∷ station (T ∷ A ∷ []) ∷ station (T ∷ []) ∷ []) 1) (gives (0 ∷ 1 ∷ 0 ∷ []) 2078)
+    -- [3,5] at stations [A,T], [T,A], [T]: K = 1 gives places 0,1,0, total 2,093 (Q-4); K = 0 gives 1,0,0, total 3,072
+    ∷ says (through (matrix 3 5) (station (A ∷ T ∷ []) ∷ station (T ∷ A ∷ []) ∷ station (T ∷ []) ∷ []) 1) (gives (0 ∷ 1 ∷ 0 ∷ []) 2093)
     ∷ says (through (matrix 3 5) (station (A ∷ T ∷ []) ∷ station (T ∷ A ∷ []) ∷ station (T ∷ []) ∷ []) 0) (gives (1 ∷ 0 ∷ 0 ∷ []) 3072)
     -- stations [T], [A] with K = 0: 10; [4,4], one station [{1,0}, {0,1}]: place 0, total 16
     ∷ says (through (matrix 3 5) (station (T ∷ []) ∷ station (A ∷ []) ∷ []) 0) (refusal routeZeros NoPlan)

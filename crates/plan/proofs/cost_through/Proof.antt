@@ -6,7 +6,7 @@ use native.Mathlib.Omega.{arith}
 use lib.ListN.{getD}
 use Rattle.plan.specs.Net.{price}
 use Rattle.plan.specs.Value.{through}
-use Rattle.plan.proofs.Optimal.{at-most, price-low}
+use Rattle.plan.proofs.Bounds.{at-most, price-low}
 use Rattle.plan.proofs.cost_through.Statement.{statement}
 use Rattle.plan.proofs.cost_through.Tie as tie
 
@@ -64,33 +64,35 @@ Size c = getD (start c .args .sizes .now) (start c .args .at + start c .args .b)
 abbrev Moves : tie.After-move-price → ℕ
 Moves c = getD (start c .args .moved .now) (start c .args .from + start c .args .b) 0
 
--- the price is low, and paid at most once
-paid : (c : tie.After-move-price) → Moves c * c .move-price .result ≤ 2 ^ 42
-paid c =
+-- the size and the price are low, and paid at most once for a move
+low :
+    (c : tie.After-move-price) →
+    (Size c ≤ 2 ^ 40)
+    × (c .move-price .result ≤ 2 ^ 42)
+    × (Moves c * Size c ≤ Size c)
+    × (Moves c * c .move-price .result ≤ c .move-price .result)
+low c =
     let s = start c in
-    let p : c .move-price .result ≤ s .args .prev + Size c = omega (arith, price-low (s .args .prev) (Size c), c .move-price .ensures) in
-    omega (
-      arith,
-      at-most (Moves c) (c .move-price .result) (s .pre .0 .ones (s .args .from + s .args .b)),
-      s .pre .0 .prev-in,
-      s .pre .0 .cells-in,
-      c .before .before .before .before .if1 .left,
+    let few : Moves c ≤ 1 = s .pre .0 .ones (s .args .from + s .args .b) in
+    let size : Size c ≤ 2 ^ 40 = omega (arith, s .pre .0 .cells-in, c .before .before .before .before .if1 .left) in (
+      size,
+      omega (arith, size, price-low (s .args .prev) (Size c), c .move-price .ensures, s .pre .0 .prev-in),
+      at-most (Moves c) (Size c) few,
+      at-most (Moves c) (c .move-price .result) few,
     )
 
 mul-result : tie.Need-mul-result
-mul-result c = omega (arith, paid c)
+mul-result c = omega (arith, low c)
 
 add-result : tie.Need-add-result
-add-result c = omega (arith, paid c, start c .pre .0 .cells-in, c .before .before .before .before .if1 .left)
+add-result c = omega (arith, low c)
 
 add-result-2 : tie.Need-add-result-2
 add-result-2 c =
     let s = start c in
     omega (
       arith,
-      paid c,
-      s .pre .0 .cells-in,
-      c .before .before .before .before .if1 .left,
+      low c,
       s .pre .0 .low (s .args .b) (s .args .m - Moves c) (omega (arith, s .pre .0 .count-in, s .pre .1)) (omega arith),
     )
 
