@@ -18,48 +18,63 @@ fn padded(layout: &Layout) -> u64 {
     dims.iter().product()
 }
 
+/// A layout of a station, and its padded size.
+#[derive(Clone, Copy)]
+struct Choice<'a> {
+    layout: &'a Layout,
+    size: u64,
+}
+
+/// What coming to a layout costs, its own padded size included, and the moves that it takes.
+struct Step {
+    cost: u64,
+    moves: usize,
+}
+
+/// A move costs the padded size of both layouts. The first station is come to from none.
+fn step(from: Option<Choice>, to: Choice) -> Step {
+    match from {
+        Some(from) if from.layout != to.layout => Step { cost: to.size + from.size + to.size, moves: 1 },
+        _ => Step { cost: to.size, moves: 0 },
+    }
+}
+
+/// The cost from a layout on, where `rest` is the cost after it by moves left.
+fn through(step: &Step, rest: &[Option<u64>], moves: usize) -> Option<u64> {
+    Some(step.cost + rest[moves.checked_sub(step.moves)?]?)
+}
+
 /// The best plan, first in list order among those of least cost.
 pub fn route(stations: &[Vec<Layout>], moves: usize) -> Option<Route> {
-    let sizes: Vec<Vec<u64>> = stations.iter().map(|s| s.iter().map(padded).collect()).collect();
+    let choice = |layout| Choice { layout, size: padded(layout) };
+    let stations: Vec<Vec<Choice>> = stations.iter().map(|layouts| layouts.iter().map(choice).collect()).collect();
     let n = stations.len();
     // least[i][a][m]: the cost after station i from its place a with m moves left.
     let mut least = vec![vec![vec![Some(0u64); moves + 1]; 8]; n];
     for i in (0..n - 1).rev() {
         for a in 0..stations[i].len() {
-            let moved: Vec<bool> = stations[i + 1].iter().map(|b| *b != stations[i][a]).collect();
+            let steps: Vec<Step> = stations[i + 1].iter().map(|&to| step(Some(stations[i][a]), to)).collect();
             for m in 0..=moves {
-                least[i][a][m] = (0..moved.len())
-                    .filter_map(|b| through(sizes[i][a], &sizes[i + 1], &least[i + 1], moved[b], b, m))
-                    .min();
+                least[i][a][m] = steps.iter().zip(&least[i + 1]).filter_map(|(s, rest)| through(s, rest, m)).min();
             }
         }
     }
-    let total = (0..stations[0].len()).filter_map(|b| through(0, &sizes[0], &least[0], false, b, moves)).min()?;
-    Some(Route { places: walk(stations, &sizes, &least, total, moves), total })
-}
-
-/// A move costs the padded size of both layouts.
-fn price(moved: bool, earlier: u64, later: u64) -> u64 {
-    moved as u64 * (earlier + later)
-}
-
-fn through(earlier: u64, sizes: &[u64], rest: &[Vec<Option<u64>>], moved: bool, b: usize, m: usize) -> Option<u64> {
-    let left = m.checked_sub(moved as usize)?;
-    Some(sizes[b] + price(moved, earlier, sizes[b]) + rest[b][left]?)
+    let starts = stations[0].iter().map(|&to| step(None, to));
+    let total = starts.zip(&least[0]).filter_map(|(s, rest)| through(&s, rest, moves)).min()?;
+    Some(Route { places: walk(&stations, &least, total, moves), total })
 }
 
 /// The places of the plan, the smallest that has the least cost at each station.
-fn walk(stations: &[Vec<Layout>], sizes: &[Vec<u64>], least: &[Vec<Vec<Option<u64>>>], total: u64, moves: usize) -> Vec<usize> {
+fn walk(stations: &[Vec<Choice>], least: &[Vec<Vec<Option<u64>>>], total: u64, moves: usize) -> Vec<usize> {
     let mut places: Vec<usize> = Vec::new();
-    let (mut left, mut cost, mut earlier) = (moves, total, 0);
+    let (mut left, mut cost, mut from) = (moves, total, None);
     for i in 0..stations.len() {
-        let moved = |b: usize| i > 0 && stations[i][b] != stations[i - 1][places[i - 1]];
-        let b = (0..stations[i].len())
-            .find(|&b| through(earlier, &sizes[i], &least[i], moved(b), b, left) == Some(cost))
-            .unwrap();
-        cost -= sizes[i][b] + price(moved(b), earlier, sizes[i][b]);
-        left -= moved(b) as usize;
-        earlier = sizes[i][b];
+        let to = |b: usize| step(from, stations[i][b]);
+        let b = (0..stations[i].len()).find(|&b| through(&to(b), &least[i][b], left) == Some(cost)).unwrap();
+        let taken = to(b);
+        cost -= taken.cost;
+        left -= taken.moves;
+        from = Some(stations[i][b]);
         places.push(b);
     }
     places
