@@ -25,7 +25,7 @@ pub cost-bound :
     planCost N p ≤ N .stations * N .cells + movesOf N 0 still p * (2 * N .cells)
 cost-bound = cost-most
 
--- So it costs at most 190 * 2^40, which is below `far`: 2^40 for each of 64 stations, and twice 2^40 for each of 63 moves.
+-- So it costs at most 190 * 2^40, which is below `far`: 2^40 for each of 64 stations, twice that for each of 63 moves.
 pub cost-at-most :
     (N : Net) → Small N → N .stations ≤ 64 → (moves : ℕ) (p : List ℕ) → Admitted N moves p → planCost N p ≤ 190 * 2 ^ 40
 cost-at-most = cost-190

@@ -31,7 +31,7 @@ pub struct Plan {
     pub total: u64,
 }
 
-// The price of a move: the earlier padded size is read, the later one written.
+// The price of a move: the cells of the earlier layout are read, those of the later one written.
 fn move_price(earlier: u64, later: u64) -> u64
     requires { ⌜ (earlier ≤ 2 ^ 41) × (later ≤ 2 ^ 40) ⌝ }
     ensures { λ r. ⌜ r ≡ price earlier later ⌝ }

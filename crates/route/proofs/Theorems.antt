@@ -137,6 +137,7 @@ module _ (s : Shape) (ys : List Station) (number cells moves : ℕ) (clean : bre
     pub only-answer : (q : List ℕ) (total : ℕ) → Best net moves total q → (q ≡ plan) × (total ≡ planCost net plan)
     only-answer q total b = best-one net moves total (planCost net plan) q plan b best
 
-    -- The total is at most 190 * 2^40: 2^40 for each of 64 stations, and twice 2^40 for each of 63 moves.
+    -- The total is at most 190 * 2^40: 2^40 for each of 64 stations, twice that for each of 63 moves.
     pub total-at-most : planCost net plan ≤ 190 * 2 ^ 40
-    total-at-most = cost-at-most net small (unbroken s ys number cells moves clean .limits .few) moves plan plan-admitted
+    total-at-most =
+        cost-at-most net small (unbroken s ys number cells moves clean .limits .few) moves plan plan-admitted
