@@ -44,8 +44,25 @@ fn through(step: &Step, rest: &[Option<u64>], moves: usize) -> Option<u64> {
     Some(step.cost + rest[moves.checked_sub(step.moves)?]?)
 }
 
-/// The best plan, first in list order among those of least cost.
+/// The first station that holds a layout twice, with its smallest later place and the earlier one.
+fn repeat(stations: &[Vec<Layout>]) -> Option<(usize, usize, usize)> {
+    for (i, layouts) in stations.iter().enumerate() {
+        for later in 1..layouts.len() {
+            for earlier in 0..later {
+                if layouts[earlier] == layouts[later] {
+                    return Some((i, earlier, later));
+                }
+            }
+        }
+    }
+    None
+}
+
+/// The best plan, first in list order among those of least cost. None is given where a station holds a layout twice.
 pub fn route(stations: &[Vec<Layout>], moves: usize) -> Option<Route> {
+    if repeat(stations).is_some() {
+        return None;
+    }
     let choice = |layout| Choice { layout, size: padded(layout) };
     let stations: Vec<Vec<Choice>> = stations.iter().map(|layouts| layouts.iter().map(choice).collect()).collect();
     let n = stations.len();

@@ -16,16 +16,23 @@ fn layout(k: u64) -> Layout {
     }
 }
 
+fn next(state: u64) -> u64 {
+    (state % 2147483648 * 1103515245 + 12345) % 2147483648
+}
+
+/// Eight of the sixteen layouts, all different: the step from one to the next is odd.
+fn station(state: u64) -> Vec<Layout> {
+    let first = state / 65536;
+    let odd = 1 + state / 4096 % 8 * 2;
+    (0..8).map(|a| layout(first + a * odd)).collect()
+}
+
 pub fn stations(seed: u64) -> Vec<Vec<Layout>> {
     let mut state = seed;
     (0..64)
         .map(|_| {
-            (0..8)
-                .map(|_| {
-                    state = (state % 2147483648 * 1103515245 + 12345) % 2147483648;
-                    layout(state / 65536)
-                })
-                .collect()
+            state = next(state);
+            station(state)
         })
         .collect()
 }

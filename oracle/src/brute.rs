@@ -4,6 +4,7 @@ use crate::brute_compose::brute_compose;
 use crate::brute_divisions::brute_divisions;
 use crate::brute_maps::brute_maps;
 use crate::brute_operations::brute_operations;
+use crate::brute_repeats::brute_repeats;
 use crate::brute_retile::brute_retile;
 use crate::brute_routes::brute_routes;
 use crate::buffer::{pack, unpack};
@@ -34,6 +35,7 @@ pub fn brute() -> Result<u64, String> {
     let mut tally = Tally { comparisons: 0 };
     brute_layouts(&mut tally)?;
     brute_routes(&mut tally)?;
+    brute_repeats(&mut tally)?;
     brute_maps(&mut tally)?;
     brute_compose(&mut tally)?;
     brute_operations(&mut tally)?;

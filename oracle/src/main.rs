@@ -7,6 +7,7 @@ mod brute_compose;
 mod brute_divisions;
 mod brute_maps;
 mod brute_operations;
+mod brute_repeats;
 mod brute_retile;
 mod brute_routes;
 mod buffer;
@@ -50,6 +51,8 @@ mod random_retile;
 mod random_retile_breaks;
 mod random_route_breaks;
 mod random_route_limits;
+mod random_route_pools;
+mod random_route_repeats;
 mod random_routes;
 mod random_tight_maps;
 mod reader;
@@ -79,7 +82,11 @@ mod tests_operations;
 #[cfg(test)]
 mod tests_random_retile;
 #[cfg(test)]
+mod tests_random_routes;
+#[cfg(test)]
 mod tests_retile;
+#[cfg(test)]
+mod tests_route_repeats;
 #[cfg(test)]
 mod tests_routes;
 mod token;
@@ -103,6 +110,7 @@ mod vectors_operations;
 mod vectors_order;
 mod vectors_places;
 mod vectors_retile;
+mod vectors_route_repeats;
 mod vectors_routes;
 mod vectors_shapes;
 mod vectors_shares;

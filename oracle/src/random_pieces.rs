@@ -8,7 +8,7 @@ const TOP_SIZE: i64 = 1 << 20;
 const TOP_COUNT: i64 = 1 << 40;
 
 /// A shape and a layout as they are written: any signed numbers.
-#[derive(Clone)]
+#[derive(Clone, PartialEq)]
 pub struct Draft {
     pub sizes: Vec<i64>,
     pub minor_to_major: Vec<i64>,

@@ -3,6 +3,7 @@
 use crate::layout::judge_layout;
 use crate::random::Random;
 use crate::random_pieces::Draft;
+use crate::random_route_pools::different_layouts;
 use crate::random_routes::{RouteDraft, TOP_COUNT};
 
 /// Breaks one rule: a shape, a limit, a count, a layout or a padded size.
@@ -13,8 +14,8 @@ pub fn break_rule(random: &mut Random, draft: &mut RouteDraft) {
         3 | 4 => draft.move_limit = random.pick(&[64, 65, -1, i64::MAX, i64::MIN]),
         5 => {
             let station = random.pick_place(draft.stations.len());
-            let layout = draft.stations[station][0].clone();
-            draft.stations[station].resize(random.pick(&[8, 9, 9, 10]), layout);
+            let count = random.pick(&[8, 9, 9, 10]);
+            resize_station(random, &mut draft.stations[station], count);
         }
         6 => {
             let station = draft.stations[0].clone();
@@ -22,12 +23,32 @@ pub fn break_rule(random: &mut Random, draft: &mut RouteDraft) {
                 .stations
                 .resize(random.pick(&[64, 65, 65, 66]), station);
         }
-        7..=9 => break_layout(random, draft),
-        _ => {
-            let layout = any_layout(random, draft);
-            layout.tiles = over_tiles();
+        _ => break_some_layout(random, draft),
+    }
+}
+
+/// Breaks the rule of a layout, or its padded size.
+pub fn break_some_layout(random: &mut Random, draft: &mut RouteDraft) {
+    let rank = draft.sizes.len();
+    let station = random.pick_place(draft.stations.len());
+    let place = random.pick_place(draft.stations[station].len());
+    let layout = &mut draft.stations[station][place];
+    if random.percent(50) {
+        break_layout_of(random, rank, layout);
+    } else {
+        layout.tiles = over_tiles();
+    }
+}
+
+/// Brings a station to that many layouts, different ones where the shape has them.
+fn resize_station(random: &mut Random, station: &mut Vec<Draft>, count: usize) {
+    let first = station[0].clone();
+    for layout in different_layouts(random, &first.sizes, count) {
+        if !station.contains(&layout) {
+            station.push(layout);
         }
     }
+    station.resize(count, first);
 }
 
 /// For every rank from 1 on these tiles pad to more than 2^40 cells.
@@ -41,12 +62,6 @@ fn break_shape(random: &mut Random, draft: &mut RouteDraft) {
         Some(last) => *last = size,
         None => draft.sizes = vec![1; 7],
     }
-}
-
-fn break_layout(random: &mut Random, draft: &mut RouteDraft) {
-    let rank = draft.sizes.len();
-    let layout = any_layout(random, draft);
-    break_layout_of(random, rank, layout);
 }
 
 /// Breaks the rule of a layout for that rank.
@@ -65,10 +80,4 @@ pub fn break_layout_of(random: &mut Random, rank: usize, layout: &mut Draft) {
             return;
         }
     }
-}
-
-fn any_layout<'a>(random: &mut Random, draft: &'a mut RouteDraft) -> &'a mut Draft {
-    let station = random.pick_place(draft.stations.len());
-    let place = random.pick_place(draft.stations[station].len());
-    &mut draft.stations[station][place]
 }

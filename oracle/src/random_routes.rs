@@ -1,14 +1,14 @@
 //! Random route lines: ties, moves between like layouts, limits that just fit, and every refusal.
 
-use crate::layout::padded_size;
 use crate::random::Random;
-use crate::random_pieces::{random_draft, random_minor_to_major, random_tiles, Draft};
+use crate::random_pieces::{random_draft, Draft};
 use crate::random_requests::{joined, layout_text, spaced};
-use crate::random_route_breaks::break_rule;
+use crate::random_route_breaks::{break_rule, break_some_layout};
 use crate::random_route_limits::limit;
+use crate::random_route_pools::{random_pool, untiled};
+use crate::random_route_repeats::repeat_layouts;
 use crate::refusal::Refusal;
 use crate::route::{best_plan, Route};
-use crate::shape::element_count;
 
 /// The largest cell limit.
 pub const TOP_COUNT: i64 = 1 << 40;
@@ -26,7 +26,7 @@ impl RouteDraft {
         let layouts = |station: &Vec<Draft>| station.iter().map(Draft::layout).collect();
         let unsigned = |number: i64| u64::try_from(number).unwrap_or(u64::MAX);
         Route {
-            shape: draft(&self.sizes).shape(),
+            shape: untiled(&self.sizes).shape(),
             cell_limit: unsigned(self.cell_limit),
             move_limit: unsigned(self.move_limit),
             stations: self.stations.iter().map(layouts).collect(),
@@ -72,10 +72,7 @@ pub fn small_route(random: &mut Random) -> RouteDraft {
             stations,
         };
         limit(random, &mut draft);
-        if !matches!(
-            best_plan(&draft.route()),
-            Err(Refusal::Shape | Refusal::Limit | Refusal::Layout | Refusal::PaddedSize)
-        ) {
+        if matches!(best_plan(&draft.route()), Ok(_) | Err(Refusal::NoPlan)) {
             return draft;
         }
     }
@@ -98,92 +95,40 @@ fn random_route(random: &mut Random) -> RouteDraft {
         stations,
     };
     limit(random, &mut draft);
-    if random.percent(18) {
+    if random.percent(16) {
         break_rule(random, &mut draft);
         if random.percent(25) {
             break_rule(random, &mut draft);
         }
     }
+    if random.percent(10) {
+        // The rule of every layout comes before a repeat, the padded sizes behind it.
+        if random.percent(35) {
+            break_some_layout(random, &mut draft);
+        }
+        repeat_layouts(random, &mut draft);
+    }
     draft
 }
 
-/// Stations whose layouts come from one small pool, so that neighbours often agree.
+/// Stations whose layouts, different ones, come from one small pool, so that neighbours often agree.
 fn stations(
     random: &mut Random,
     sizes: &[i64],
     most_stations: u64,
-    most_choices: u64,
+    most_choices: usize,
 ) -> Vec<Vec<Draft>> {
-    let pool = pool(random, sizes);
+    let pool = random_pool(random, sizes, most_choices);
     let count = match most_stations {
         64 => random.between(60, 64) as u64,
         _ => 1 + random.below(most_stations),
     };
     let mut stations = Vec::new();
     for _ in 0..count {
-        let choices = 1 + random.below(most_choices);
-        let pick = |_| pool[random.below(pool.len() as u64) as usize].clone();
+        let choices = (1 + random.pick_place(most_choices)).min(pool.len());
+        let mut left = pool.clone();
+        let pick = |_| left.swap_remove(random.pick_place(left.len()));
         stations.push((0..choices).map(pick).collect());
     }
     stations
-}
-
-/// Two to six layouts that keep the rules where the shape does, some of them variants of each other.
-fn pool(random: &mut Random, sizes: &[i64]) -> Vec<Draft> {
-    let count = 2 + random.below(5) as usize;
-    let mut pool = Vec::new();
-    while pool.len() < count {
-        if pool.is_empty() || random.percent(50) {
-            pool.push(good_layout(random, sizes));
-            continue;
-        }
-        let mut variant: Draft = pool[random.below(pool.len() as u64) as usize].clone();
-        vary(random, &mut variant);
-        if is_good(&variant) || element_count(&variant.shape()).is_err() {
-            pool.push(variant);
-        } else {
-            pool.push(good_layout(random, sizes));
-        }
-    }
-    pool
-}
-
-/// Another order, or tiles that change no offset.
-fn vary(random: &mut Random, layout: &mut Draft) {
-    let rank = layout.sizes.len();
-    match random.below(4) {
-        0 => layout.minor_to_major.reverse(),
-        1 => layout.tiles.push(vec![1]),
-        2 => layout.tiles.push(vec![1; rank.max(1)]),
-        _ => {
-            layout.tiles.pop();
-        }
-    }
-}
-
-fn good_layout(random: &mut Random, sizes: &[i64]) -> Draft {
-    let rank = sizes.len();
-    for _ in 0..20 {
-        let mut layout = draft(sizes);
-        layout.minor_to_major = random_minor_to_major(random, rank);
-        let small = random.percent(70);
-        layout.tiles = random_tiles(random, rank, small);
-        if is_good(&layout) {
-            return layout;
-        }
-    }
-    draft(sizes)
-}
-
-/// The untiled layout of a shape, last dimension minor.
-fn draft(sizes: &[i64]) -> Draft {
-    Draft {
-        sizes: sizes.to_vec(),
-        minor_to_major: (0..sizes.len() as i64).rev().collect(),
-        tiles: vec![],
-    }
-}
-
-fn is_good(layout: &Draft) -> bool {
-    padded_size(&layout.shape(), &layout.layout()).is_ok()
 }

@@ -10,6 +10,12 @@ pub enum Refusal {
         later: usize,
     },
     Layout,
+    /// Number 3 of a station that holds a layout twice, with the station and the two places.
+    RepeatedLayout {
+        station: usize,
+        earlier: usize,
+        later: usize,
+    },
     PaddedSize,
     Outside,
     Length,
@@ -24,7 +30,7 @@ impl Refusal {
         match self {
             Refusal::Shape => 1,
             Refusal::Limit | Refusal::Repeat { .. } => 2,
-            Refusal::Layout => 3,
+            Refusal::Layout | Refusal::RepeatedLayout { .. } => 3,
             Refusal::PaddedSize => 4,
             Refusal::Outside => 5,
             Refusal::Length => 6,
@@ -35,11 +41,16 @@ impl Refusal {
         }
     }
 
-    /// The answer: the number, and the places of a repeat.
+    /// The answer: the number, and where a repeat is.
     pub fn text(self) -> String {
         let number = self.number();
         match self {
             Refusal::Repeat { earlier, later } => format!("refused {number} at {earlier} {later}"),
+            Refusal::RepeatedLayout {
+                station,
+                earlier,
+                later,
+            } => format!("refused {number} at {station} {earlier} {later}"),
             _ => format!("refused {number}"),
         }
     }

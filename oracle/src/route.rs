@@ -71,6 +71,7 @@ pub fn judged_sizes(route: &Route) -> Result<Vec<Vec<u64>>, Refusal> {
     for layout in route.stations.iter().flatten() {
         judge_layout(route.shape.sizes.len(), layout)?;
     }
+    judge_repeats(&route.stations)?;
     let sizes = |station: &Vec<Layout>| {
         let sizes = station
             .iter()
@@ -78,6 +79,24 @@ pub fn judged_sizes(route: &Route) -> Result<Vec<Vec<u64>>, Refusal> {
         sizes.collect()
     };
     route.stations.iter().map(sizes).collect()
+}
+
+/// The first station that holds two layouts equal as written (3): its smallest later place, and the earlier one.
+fn judge_repeats(stations: &[Vec<Layout>]) -> Result<(), Refusal> {
+    for (station, layouts) in stations.iter().enumerate() {
+        for later in 0..layouts.len() {
+            for earlier in 0..later {
+                if layouts[earlier] == layouts[later] {
+                    return Err(Refusal::RepeatedLayout {
+                        station,
+                        earlier,
+                        later,
+                    });
+                }
+            }
+        }
+    }
+    Ok(())
 }
 
 /// The least costs from each station on, without the move into it.

@@ -48,7 +48,7 @@ fn ties_and_moves() {
             "route [3,5] 24 2 {1,0} ; {1,0:T(2,2)} ; {1,0}",
             "plan 0 0 0 total 132",
         ),
-        ("route [] 1 0 {} {} ; {} {} {}", "plan 0 0 total 2"),
+        ("route [] 1 0 {} ; {}", "plan 0 0 total 2"),
     ]);
 }
 
@@ -105,7 +105,10 @@ fn limits_and_refusals() {
         ("route [1] -1 0 {0}", "refused 2"),
         ("route [1] 1 64 {0}", "refused 2"),
         ("route [1] 1 -1 {0}", "refused 2"),
-        ("route [1] 1 63 {0}{0}{0}{0}{0}{0}{0}{0}", "plan 0 total 1"),
+        (
+            "route [2] 2 63 {0:T(3)}{0:T(4)}{0:T(5)}{0:T(6)}{0:T(7)}{0:T(8)}{0:T(9)}{0}",
+            "plan 7 total 2",
+        ),
         ("route [1] 1 63 {0}{0}{0}{0}{0}{0}{0}{0}{1}", "refused 2"),
         ("route [1] 1 0 {0} ; {0} {0:T(1025)}", "refused 3"),
         (

@@ -25,6 +25,7 @@ use crate::vectors_operations::OPERATIONS;
 use crate::vectors_order::ORDER;
 use crate::vectors_places::PLACES;
 use crate::vectors_retile::{long_retilings, retiling_cuts, RETILINGS};
+use crate::vectors_route_repeats::{repeated_places, repeated_stations, ROUTE_REPEATS};
 use crate::vectors_routes::{ROUTES, UNREADABLE_ROUTES};
 use crate::vectors_shapes::SHAPES;
 use crate::vectors_shares::SHARES;
@@ -39,9 +40,9 @@ const TABLES: &[&[Group]] = &[
     SHAPES, SHARES, LAYOUTS, PLACES, BUFFERS, ORDER, GRIDS, TOKENS, UNREADABLE,
 ];
 
-const SEED: u64 = 20_010_001;
+pub const SEED: u64 = 20_010_001;
 const RANDOM_REQUESTS: u64 = 3000;
-const RANDOM_ROUTES: u64 = 2000;
+pub const RANDOM_ROUTES: u64 = 2000;
 const RANDOM_MAPS: u64 = 4000;
 const RANDOM_COMPOSITIONS: u64 = 3000;
 const RANDOM_OPERATIONS: u64 = 4000;
@@ -92,6 +93,11 @@ fn routes(bytes: &mut Vec<u8>) {
         group(&mut text, title, lines.iter());
     }
     long_routes(&mut text);
+    for (title, lines) in ROUTE_REPEATS {
+        group(&mut text, title, lines.iter());
+    }
+    repeated_places(&mut text);
+    repeated_stations(&mut text);
     bytes.extend(text.bytes());
     random_group(bytes, "routes", RANDOM_ROUTES, Kind::Route);
 }

@@ -39,8 +39,18 @@ pub fn long_routes(text: &mut String) {
 fn full_routes(text: &mut String) {
     let eight = ["{0}"; 8].join(" ");
     let nine = ["{0}"; 9].join(" ");
+    let different = "{0:T(3)} {0:T(4)} {0:T(1)} {0:T(3)(1)} {0:T(4)(1)} {0:T(1)(1)} {0:T(2)} {0}";
     let lines = [
         format!("route [3] 4 0 {}", repeated(&[&eight], 64)),
+        format!("route [3] 4 0 {}", repeated(&[different], 64)),
+        format!(
+            "route [3] 3 63 {}",
+            repeated(&[different, "{0:T(1)} {0}"], 64)
+        ),
+        format!(
+            "route [3] 4 0 {} ; {different} {{0:T(2)(1)}}",
+            repeated(&[different], 63)
+        ),
         format!("route [3] 4 0 {} ; {nine}", repeated(&[&eight], 63)),
         format!("route [3] 4 0 {} ; {nine}", repeated(&[&eight], 64)),
     ];
@@ -59,7 +69,7 @@ fn full_routes(text: &mut String) {
 }
 
 /// Stations taken from a list in turn.
-fn repeated(stations: &[&str], count: usize) -> String {
+pub fn repeated(stations: &[&str], count: usize) -> String {
     let chosen: Vec<&str> = (0..count).map(|k| stations[k % stations.len()]).collect();
     chosen.join(" ; ")
 }

@@ -9,7 +9,8 @@ use Rattle.radix.specs.Radix.{isWithin}
 use Rattle.refusal.specs.Number.{Answer, done, refusal}
 use Rattle.refusal.specs.declared.Refusal.the-variants.{Attribute, Repeat}
 use Rattle.shape.specs.Shape.{goodShape}
-use Rattle.shape.specs.Dimensions.{inRange, laterPlace, earlierPlace, place}
+use Rattle.shape.specs.Repeats.{laterIn, earlierIn}
+use Rattle.shape.specs.Dimensions.{inRange, place}
 use Rattle.shape.specs.declared.Shape.{Shape}
 use Rattle.expression.specs.Expression.{d, s, floordiv, modulo, Expr, Range, span}
 use Rattle.indexing.specs.declared.IndexingMap.{IndexingMap}
@@ -113,5 +114,5 @@ samples =
     ∷ []
 
 pub operation-samples : Agree samples
-unfolding makes-maps goodShape isWithin inRange laterPlace earlierPlace place
+unfolding makes-maps goodShape isWithin inRange laterIn earlierIn place
 operation-samples = refl

@@ -2,7 +2,7 @@
 use Prim.Native.Nat.{ℕ}
 use mathlib.Core.List.{List, [], _∷_}
 use Rattle.refusal.specs.declared.Refusal.{Refusal}
-use Rattle.refusal.specs.declared.Refusal.the-variants.{ShapeLimits, Attribute, Repeat, LayoutRule, PaddedSize, Outside, WrongLength, CountLimit, WorkingLimit, ShortBuffer, NoPlan}
+use Rattle.refusal.specs.declared.Refusal.the-variants.{ShapeLimits, Attribute, Repeat, LayoutRule, RepeatedLayout, PaddedSize, Outside, WrongLength, CountLimit, WorkingLimit, ShortBuffer, NoPlan}
 use Rattle.refusal.specs.declared.Verdict.{Verdict}
 use Rattle.refusal.specs.declared.Verdict.the-variants.{Done, Refused}
 
@@ -12,6 +12,7 @@ numberOf ShapeLimits = 1
 numberOf Attribute = 2
 numberOf (Repeat e l) = 2
 numberOf LayoutRule = 3
+numberOf (RepeatedLayout s e l) = 3
 numberOf PaddedSize = 4
 numberOf Outside = 5
 numberOf WrongLength = 6
@@ -20,12 +21,13 @@ numberOf WorkingLimit = 8
 numberOf ShortBuffer = 9
 numberOf NoPlan = 10
 
--- what a refusal itself carries: a repeat its two places
+-- what a refusal itself carries: a repeat its two places, a repeated layout its station and the two places
 abbrev pub placesOf : Refusal → List ℕ
 placesOf ShapeLimits = []
 placesOf Attribute = []
 placesOf (Repeat e l) = e ∷ l ∷ []
 placesOf LayoutRule = []
+placesOf (RepeatedLayout s e l) = s ∷ e ∷ l ∷ []
 placesOf PaddedSize = []
 placesOf Outside = []
 placesOf WrongLength = []

@@ -11,6 +11,8 @@ pub enum Refusal {
     Repeat(usize, usize),
     // 3: a layout breaks its rule.
     LayoutRule,
+    // 3: a station's list holds a layout twice: the station, the earlier and the later place.
+    RepeatedLayout(usize, usize, usize),
     // 4: a padded size is above 2^40.
     PaddedSize,
     // 5: a point, element or offset is outside.
@@ -42,6 +44,7 @@ pub fn number(r: Refusal) -> u64
         Refusal::Attribute => 2,
         Refusal::Repeat(_, _) => 2,
         Refusal::LayoutRule => 3,
+        Refusal::RepeatedLayout(_, _, _) => 3,
         Refusal::PaddedSize => 4,
         Refusal::Outside => 5,
         Refusal::WrongLength => 6,

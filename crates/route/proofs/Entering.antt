@@ -13,15 +13,19 @@ use lib.Seq.{getD-set-same, getD-set-other}
 use Rattle.radix.specs.Radix.{maxCount}
 use Rattle.radix.proofs.Lists.{le-or-lt}
 use Rattle.radix.proofs.Tests.{and-left, and-right, every-at}
+use Rattle.refusal.specs.declared.Verdict.{Verdict}
+use Rattle.refusal.specs.declared.Verdict.the-variants.{Done}
 use Rattle.shape.specs.declared.Shape.{Shape}
 use Rattle.layout.specs.Layout.{goodLayout}
 use Rattle.plan.specs.Answer.{maxStations}
 use Rattle.plan.proofs.Walking.{zeros-at}
 use Rattle.route.specs.Same.{sameLayout, moveOf}
 use Rattle.route.specs.Stations.{maxLayouts, stationAt, layoutAt, goodCount, goodLayouts, goodSizes, countsKept, layoutsKept, sizesKept}
-use Rattle.route.specs.Loading.{Fit, Filled, cappedSize, moveAt, Entered, Sound, MovesEntered, Holds, Starts, Adds}
+use Rattle.route.specs.LayoutRepeats.{repeatStation}
+use Rattle.route.specs.Loading.{Fit, Filled, cappedSize, moveAt, firstRefusal, stationRepeat, Entered, Sound, MovesEntered, Holds, Starts, Adds}
 use Rattle.route.specs.declared.Station.{Station}
 use Rattle.route.specs.declared.load.Loaded.{Loaded}
+use Rattle.route.proofs.LayoutRepeats.{repeat-next}
 use Rattle.route.proofs.Tables.{clash, every-next, still-kept, now-broken, was-kept, upto, filled-bound}
 
 -- the tests over one station more
@@ -82,7 +86,7 @@ pub broken-count :
     (s : Shape) (h : Loaded) (i : ℕ) (x : Station) →
     goodCount x ≡ false →
     Adds s h i x
-    (record { «counts_kept» = false; «layouts_kept» = h .«layouts_kept»; «sizes_kept» = h .«sizes_kept»; counts = h .counts; sizes = h .sizes; moved = h .moved; last = h .last })
+    (record { «counts_kept» = false; «layouts_kept» = h .«layouts_kept»; repeat = h .repeat; «sizes_kept» = h .«sizes_kept»; counts = h .counts; sizes = h .sizes; moved = h .moved; last = h .last })
 broken-count s h i x b =
     record {
       more =
@@ -93,6 +97,7 @@ broken-count s h i x b =
             sound = record { last = S .last; counts = S .counts; sizes = S .sizes; ones = S .ones; start = S .start };
             counts = sym f;
             layouts = λ c. clash _ c f;
+            repeat = λ c l. clash _ c f;
             sizes = λ c l. clash _ c f;
             entered = λ c l. clash _ c f;
           };
@@ -104,7 +109,7 @@ pub broken-layouts :
     goodCount x ≡ true →
     goodLayouts (s .rank) x ≡ false →
     Adds s h i x
-    (record { «counts_kept» = h .«counts_kept»; «layouts_kept» = false; «sizes_kept» = h .«sizes_kept»; counts = h .counts; sizes = h .sizes; moved = h .moved; last = h .last })
+    (record { «counts_kept» = h .«counts_kept»; «layouts_kept» = false; repeat = h .repeat; «sizes_kept» = h .«sizes_kept»; counts = h .counts; sizes = h .sizes; moved = h .moved; last = h .last })
 broken-layouts s h i x g b =
     record {
       more =
@@ -115,27 +120,30 @@ broken-layouts s h i x g b =
             sound = record { last = S .last; counts = S .counts; sizes = S .sizes; ones = S .ones; start = S .start };
             counts = H .counts ∙ sym (still-kept (countsKept ys i) _ (counts-next ys i) (ap goodCount e ∙ g));
             layouts = λ c. sym f;
+            repeat = λ c l. clash _ l f;
             sizes = λ c l. clash _ l f;
             entered = λ c l. clash _ l f;
           };
     }
 
 -- what is entered of a station whose count and layouts keep their rules
-pub record Enters (s : Shape) (h : Loaded) (i : ℕ) (x : Station) (kept : Bool) (sizes moved : List ℕ) : Type 0 where
+pub record Enters (s : Shape) (h : Loaded) (i : ℕ) (x : Station) (repeat : Verdict) (kept : Bool) (sizes moved : List ℕ) : Type 0 where
   pub few : i < maxStations
   pub room : i < length (h .counts)
   pub sound : Sound (s .rank) h
   pub count : goodCount x ≡ true
   pub layouts : goodLayouts (s .rank) x ≡ true
+  pub repeat-is : repeat ≡ firstRefusal (h .repeat) (stationRepeat x i)
   pub kept-is : kept ≡ (h .«sizes_kept» && goodSizes s x)
   pub sizes-in : Filled (h .sizes) sizes (i * 8) (x .count) (cappedSize s x)
   pub moves-in : MovesEntered h i x moved
 
-abbrev pub entry : Loaded → ℕ → Station → Bool → List ℕ → List ℕ → Loaded
-entry h i x kept sizes moved =
+abbrev pub entry : Loaded → ℕ → Station → Verdict → Bool → List ℕ → List ℕ → Loaded
+entry h i x repeat kept sizes moved =
     record {
       «counts_kept» = h .«counts_kept»;
       «layouts_kept» = h .«layouts_kept»;
+      repeat = repeat;
       «sizes_kept» = kept;
       counts = set (h .counts) i (x .count);
       sizes = sizes;
@@ -146,7 +154,7 @@ entry h i x kept sizes moved =
 first-or : (n : ℕ) → (n ≡ 0) ⊎ (0 < n)
 first-or n = ⊎-elim (λ (q : n ≤ 0). inl (omega arith)) (λ (q : 0 < n). inr q) (le-or-lt n 0)
 
-module _ (s : Shape) (h : Loaded) (i : ℕ) (x : Station) (kept : Bool) (sizes moved : List ℕ) (E : Enters s h i x kept sizes moved) where
+module _ (s : Shape) (h : Loaded) (i : ℕ) (x : Station) (repeat : Verdict) (kept : Bool) (sizes moved : List ℕ) (E : Enters s h i x repeat kept sizes moved) where
   moved-bound : (k : ℕ) → getD moved k 0 ≤ 1
   moved-bound k =
       ⊎-elim
@@ -179,7 +187,7 @@ module _ (s : Shape) (h : Loaded) (i : ℕ) (x : Station) (kept : Bool) (sizes m
       (λ (q : i < k). omega (arith, getD-set-other (h .counts) i k (x .count) 0 (λ z. omega arith), E .sound .counts k))
       (le-or-lt k i)
 
-  new-sound : Sound (s .rank) (entry h i x kept sizes moved)
+  new-sound : Sound (s .rank) (entry h i x repeat kept sizes moved)
   new-sound =
       record {
         last = fit-of (s .rank) x (E .count) (E .layouts);
@@ -190,8 +198,8 @@ module _ (s : Shape) (h : Loaded) (i : ℕ) (x : Station) (kept : Bool) (sizes m
       }
 
 -- with station i of a list for x
-module _ (s : Shape) (h : Loaded) (i : ℕ) (ys : List Station) (kept : Bool) (sizes moved : List ℕ)
-    (E : Enters s h i (stationAt ys i) kept sizes moved) (H : Holds s ys i h) where
+module _ (s : Shape) (h : Loaded) (i : ℕ) (ys : List Station) (repeat : Verdict) (kept : Bool) (sizes moved : List ℕ)
+    (E : Enters s h i (stationAt ys i) repeat kept sizes moved) (H : Holds s ys i h) where
   module _ (c : countsKept ys (i + 1) ≡ true) (l : layoutsKept s ys (i + 1) ≡ true) where
     old : Entered s ys i h
     old = H .entered (was-kept (countsKept ys i) _ (counts-next ys i) (E .count) c) (was-kept (layoutsKept s ys i) _ (layouts-next s ys i) (E .layouts) l)
@@ -244,7 +252,7 @@ module _ (s : Shape) (h : Loaded) (i : ℕ) (ys : List Station) (kept : Bool) (s
         ∙ old .moved k a b q g f)
         (upto (k + 1) i m)
 
-    new-entered : Entered s ys (i + 1) (entry h i (stationAt ys i) kept sizes moved)
+    new-entered : Entered s ys (i + 1) (entry h i (stationAt ys i) repeat kept sizes moved)
     new-entered =
         record {
           counts = counts-at;
@@ -253,15 +261,21 @@ module _ (s : Shape) (h : Loaded) (i : ℕ) (ys : List Station) (kept : Bool) (s
           last = λ j e. ap (stationAt ys) (let q : i ≡ j = omega arith in q);
         }
 
-  new-holds : Holds s ys (i + 1) (entry h i (stationAt ys i) kept sizes moved)
+  new-holds : Holds s ys (i + 1) (entry h i (stationAt ys i) repeat kept sizes moved)
   new-holds =
       record {
-        sound = new-sound s h i (stationAt ys i) kept sizes moved E;
+        sound = new-sound s h i (stationAt ys i) repeat kept sizes moved E;
         counts = H .counts ∙ sym (still-kept (countsKept ys i) _ (counts-next ys i) (E .count));
         layouts =
             λ c.
             H .layouts (was-kept (countsKept ys i) _ (counts-next ys i) (E .count) c)
             ∙ sym (still-kept (layoutsKept s ys i) _ (layouts-next s ys i) (E .layouts));
+        repeat =
+            λ c l.
+            E .repeat-is
+            ∙ ap (λ (v : Verdict). firstRefusal v (stationRepeat (stationAt ys i) i))
+            (H .repeat (was-kept (countsKept ys i) _ (counts-next ys i) (E .count) c) (was-kept (layoutsKept s ys i) _ (layouts-next s ys i) (E .layouts) l))
+            ∙ sym (repeat-next ys i);
         sizes =
             λ c l.
             E .kept-is
@@ -272,15 +286,15 @@ module _ (s : Shape) (h : Loaded) (i : ℕ) (ys : List Station) (kept : Bool) (s
       }
 
 pub entered :
-    (s : Shape) (h : Loaded) (i : ℕ) (x : Station) (kept : Bool) (sizes moved : List ℕ) →
-    Enters s h i x kept sizes moved →
-    Adds s h i x (entry h i x kept sizes moved)
-entered s h i x kept sizes moved E =
+    (s : Shape) (h : Loaded) (i : ℕ) (x : Station) (repeat : Verdict) (kept : Bool) (sizes moved : List ℕ) →
+    Enters s h i x repeat kept sizes moved →
+    Adds s h i x (entry h i x repeat kept sizes moved)
+entered s h i x repeat kept sizes moved E =
     record {
       more =
           λ ys H e.
-          subst (λ (y : Station). Enters s h i y kept sizes moved → Holds s ys (i + 1) (entry h i y kept sizes moved)) e
-          (λ F. new-holds s h i ys kept sizes moved F H)
+          subst (λ (y : Station). Enters s h i y repeat kept sizes moved → Holds s ys (i + 1) (entry h i y repeat kept sizes moved)) e
+          (λ F. new-holds s h i ys repeat kept sizes moved F H)
           E;
     }
 
@@ -289,14 +303,15 @@ pub started :
     (h : Loaded) →
     h .«counts_kept» ≡ true →
     h .«layouts_kept» ≡ true →
+    h .repeat ≡ Done →
     h .«sizes_kept» ≡ true →
     h .counts ≡ replicate 64 0 →
     h .sizes ≡ replicate 512 0 →
     h .moved ≡ replicate 4096 0 →
     h .last .count ≡ 0 →
     Starts h
-unfolding countsKept layoutsKept sizesKept
-started h c l z counts sizes moved last =
+unfolding countsKept layoutsKept sizesKept repeatStation
+started h c l r z counts sizes moved last =
     record {
       none =
           λ s ys.
@@ -311,6 +326,7 @@ started h c l z counts sizes moved last =
                 };
             counts = c;
             layouts = λ p. l;
+            repeat = λ p q. r;
             sizes = λ p q. z;
             entered =
                 λ p q.

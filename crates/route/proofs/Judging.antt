@@ -1,17 +1,18 @@
 -- Judging what was read: each rule from its mark, and what an input that breaks no rule gives. Assumes nothing.
-use mathlib.Core.Path.{_≡_, sym, _∙_, subst}
-use mathlib.Core.Bool.{true, false, _&&_}
-use mathlib.Core.List.{List}
-use Prim.Native.Nat.{ℕ, _<_, _≤_}
+use mathlib.Core.Path.{_≡_, refl, sym, ap₂, _∙_, subst}
+use mathlib.Core.Bool.{Bool, true, false, _&&_}
+use mathlib.Core.List.{List, [], _∷_}
+use Prim.Native.Nat.{ℕ, _≤_}
 use native.Mathlib.Omega.{arith}
-use borrow.Author.Tests.{leb-true, le-leb, lt-leb}
+use borrow.Author.Tests.{leb-true}
 use lib.Dec.{leb}
 use lib.ListN.{length}
 use Rattle.radix.specs.Radix.{maxCount}
 use Rattle.radix.proofs.Tests.{and-left, and-right}
-use Rattle.refusal.specs.Judge.{rule}
+use Rattle.refusal.specs.Judge.{Rule, unless, judge}
 use Rattle.refusal.specs.declared.Refusal.{Refusal}
-use Rattle.refusal.specs.declared.Refusal.the-variants.{ShapeLimits, Attribute, LayoutRule, PaddedSize, ShortBuffer}
+use Rattle.refusal.specs.declared.Refusal.the-variants.{ShapeLimits, Attribute, LayoutRule}
+use Rattle.refusal.specs.declared.Verdict.{Verdict}
 use Rattle.refusal.specs.declared.Verdict.the-variants.{Done, Refused}
 use Rattle.refusal.proofs.Judged.{kept, rest}
 use Rattle.shape.specs.Shape.{goodShape}
@@ -19,7 +20,8 @@ use Rattle.shape.specs.declared.Shape.{Shape}
 use Rattle.plan.specs.Answer.{maxStations}
 use Rattle.route.specs.Stations.{countsKept, layoutsKept, sizesKept}
 use Rattle.route.specs.Route.{maxMoves, goodLimits, recordsRead, breaksNoRule}
-use Rattle.route.specs.Loading.{Reads, Holds, Judges}
+use Rattle.route.specs.LayoutRepeats.{repeatRule}
+use Rattle.route.specs.Loading.{Reads, Holds, firstRefusal, sizeRules, Judges}
 use Rattle.route.specs.declared.Station.{Station}
 use Rattle.route.specs.declared.load.Loaded.{Loaded}
 
@@ -53,6 +55,7 @@ pub record Unbroken (s : Shape) (ys : List Station) (number cells moves : ℕ) :
   pub limits : Limited number cells moves
   pub counts : countsKept ys number ≡ true
   pub layouts : layoutsKept s ys number ≡ true
+  pub lists : repeatRule ys number .kept ≡ true
   pub sizes : sizesKept s ys number ≡ true
   pub long : number ≤ length ys
 
@@ -62,16 +65,26 @@ unbroken s ys number cells moves e =
     let c = kept (goodLimits number cells moves && countsKept ys (recordsRead ys number)) _ _ e2 in
     let e3 = rest (goodLimits number cells moves && countsKept ys (recordsRead ys number)) _ _ e2 in
     let e4 = rest (layoutsKept s ys (recordsRead ys number)) _ _ e3 in
-    let e5 = rest (sizesKept s ys (recordsRead ys number)) _ _ e4 in
-    let l : number ≤ length ys = leb-true _ _ (kept (leb number (length ys)) _ _ e5) in
+    let e5 = rest (repeatRule ys (recordsRead ys number) .kept) _ _ e4 in
+    let e6 = rest (sizesKept s ys (recordsRead ys number)) _ _ e5 in
+    let l : number ≤ length ys = leb-true _ _ (kept (leb number (length ys)) _ _ e6) in
     let n : recordsRead ys number ≡ number = omega arith in
     record {
       limits = limited number cells moves (and-left (goodLimits number cells moves) (countsKept ys (recordsRead ys number)) c);
       counts = subst (λ (k : ℕ). countsKept ys k ≡ true) n (and-right (goodLimits number cells moves) (countsKept ys (recordsRead ys number)) c);
       layouts = subst (λ (k : ℕ). layoutsKept s ys k ≡ true) n (kept (layoutsKept s ys (recordsRead ys number)) _ _ e3);
-      sizes = subst (λ (k : ℕ). sizesKept s ys k ≡ true) n (kept (sizesKept s ys (recordsRead ys number)) _ _ e4);
+      lists = subst (λ (k : ℕ). repeatRule ys k .kept ≡ true) n (kept (repeatRule ys (recordsRead ys number) .kept) _ _ e4);
+      sizes = subst (λ (k : ℕ). sizesKept s ys k ≡ true) n (kept (sizesKept s ys (recordsRead ys number)) _ _ e5);
       long = l;
     }
+
+-- a rule and the rules after it, judged apart
+pub rule-first : (x : Rule) (xs : List Rule) → firstRefusal (judge (x ∷ [])) (judge xs) ≡ judge (x ∷ xs)
+rule-first x xs = go (x .kept)
+  where
+    go : (b : Bool) → firstRefusal (unless b (x .otherwise) Done) (judge xs) ≡ unless b (x .otherwise) (judge xs)
+    go true = refl
+    go false = refl
 
 -- what was read is what the rules ask for
 module _ (s : Shape) (h : Loaded) (len number cells moves : ℕ) where
@@ -108,42 +121,22 @@ module _ (s : Shape) (h : Loaded) (len number cells moves : ℕ) where
                   rw (g, m, c′, sym (K .layouts c′) ∙ f);
             }
 
-        module _ (l : h .«layouts_kept» ≡ true) where
-          pub no-sizes : h .«sizes_kept» ≡ false → Judges s h len number cells moves (Refused PaddedSize)
-          no-sizes f =
-              record {
-                limits = λ q. not-done PaddedSize q;
-                judged =
-                    λ ys n e R H.
-                    let K = held ys n e R H in
-                    let c′ = sym (K .counts) ∙ c in
-                    let l′ = sym (K .layouts c′) ∙ l in
-                    rw (g, m, c′, l′, sym (K .sizes c′ l′) ∙ f);
-              }
-
-          module _ (z : h .«sizes_kept» ≡ true) where
-            pub too-short : len < number → Judges s h len number cells moves (Refused ShortBuffer)
-            too-short f =
-                record {
-                  limits = λ q. not-done ShortBuffer q;
-                  judged =
-                      λ ys n e R H.
-                      let K = held ys n e R H in
-                      let c′ = sym (K .counts) ∙ c in
-                      let l′ = sym (K .layouts c′) ∙ l in
-                      let w : length ys < number = omega arith in
-                      rw (g, m, c′, l′, sym (K .sizes c′ l′) ∙ z, lt-leb _ _ w);
-                }
-
-            pub all-kept : number ≤ len → Judges s h len number cells moves Done
-            all-kept f =
-                record {
-                  limits = λ q. m;
-                  judged =
-                      λ ys n e R H.
-                      let K = held ys n e R H in
-                      let c′ = sym (K .counts) ∙ c in
-                      let l′ = sym (K .layouts c′) ∙ l in
-                      let w : number ≤ length ys = omega arith in
-                      rw (g, m, c′, l′, sym (K .sizes c′ l′) ∙ z, le-leb _ _ w);
-                }
+        -- the repeat, then the rules 4 and 9
+        pub after-layouts :
+            h .«layouts_kept» ≡ true →
+            (v : Verdict) →
+            v ≡ firstRefusal (h .repeat) (judge (sizeRules (h .«sizes_kept») len number)) →
+            Judges s h len number cells moves v
+        after-layouts l v q =
+            record {
+              limits = λ _. m;
+              judged =
+                  λ ys n e R H.
+                  let K = held ys n e R H in
+                  let c′ = sym (K .counts) ∙ c in
+                  let l′ = sym (K .layouts c′) ∙ l in
+                  q
+                  ∙ ap₂ firstRefusal (K .repeat c′ l′)
+                  (ap₂ (λ (b : Bool) (k : ℕ). judge (sizeRules b k number)) (K .sizes c′ l′) (sym e))
+                  ∙ rw (g, m, c′, l′) (rule-first (repeatRule ys (recordsRead ys number)) (sizeRules (sizesKept s ys (recordsRead ys number)) (length ys) number));
+            }

@@ -1,8 +1,11 @@
 pub mod Written
+pub mod LayoutRepeats
 pub mod Tables
 pub mod Entering
 pub mod Judging
 pub mod Answering
 pub mod PastCounts
+pub mod RepeatAnswers
+pub mod Plans
 pub mod Machine
 pub mod Theorems

@@ -9,10 +9,11 @@ use lib.Dec.{leb, eqb, ltb}
 use lib.ListN.{length, drop}
 use Rattle.radix.specs.Radix.{maxCount, every, isWithin}
 use Rattle.refusal.specs.Number.{done}
-use Rattle.refusal.specs.Judge.{rule, judge}
+use Rattle.refusal.specs.Judge.{Rule, rule, unless, judge}
+use Rattle.refusal.specs.declared.Refusal.the-variants.{ShapeLimits, Attribute, LayoutRule}
 use Rattle.refusal.specs.declared.Verdict.{Verdict}
 use Rattle.refusal.specs.declared.Verdict.the-variants.{Done, Refused}
-use Rattle.shape.specs.Shape.{maxRank, sizesOf}
+use Rattle.shape.specs.Shape.{maxRank, sizesOf, goodShape}
 use Rattle.shape.specs.Dimensions.{isPermutation}
 use Rattle.shape.specs.declared.Shape.{Shape}
 use Rattle.tiling.specs.Tile.{maxEntries, maxEntry, maxTiles, tilesFrom, reversed, padded}
@@ -24,10 +25,13 @@ use Rattle.plan.proofs.Alike.{Alike, cost-alike, best-alike}
 use Rattle.plan.proofs.Theorems.{best-found}
 use Rattle.route.specs.Same.{sameList, sameTiles, sameLayout, moveOf}
 use Rattle.route.specs.Stations.{stationAt, layoutAt, goodCount, goodLayouts, goodSizes, countsKept, layoutsKept, sizesKept, netOf}
-use Rattle.route.specs.Route.{routeRules, breaksNoRule, routeOf}
+use Rattle.route.specs.LayoutRepeats.{repeatRule}
+use Rattle.route.specs.Route.{goodLimits, recordsRead, routeRules, breaksNoRule, routeOf}
+use Rattle.route.specs.Loading.{firstRefusal, sizeRules}
 use Rattle.route.specs.declared.Station.{Station}
 use Rattle.route.proofs.Entering.{counts-low}
-use Rattle.route.proofs.Judging.{unbroken}
+use Rattle.route.proofs.LayoutRepeats.{rule-alike}
+use Rattle.route.proofs.Judging.{rule-first, unbroken}
 use Rattle.route.proofs.Answering.{answer-refused, answer-none, answer-values}
 
 -- two layouts that agree up to their counts
@@ -64,11 +68,12 @@ good-agree rank a b A =
 padded-agree : (s : Shape) (a b : Layout) → LayoutsAgree a b → paddedOf s a ≡ paddedOf s b
 padded-agree s a b A = ap₂ (λ (m : List ℕ) (t : List (List ℕ)). padded (sizesOf s) (reversed m) t) (A .order) (A .entries)
 
-move-agree : (a b c d : Layout) → LayoutsAgree a b → LayoutsAgree c d → moveOf a c ≡ moveOf b d
+same-agree : (a b c d : Layout) → LayoutsAgree a b → LayoutsAgree c d → sameLayout a c ≡ sameLayout b d
 unfolding sameLayout
-move-agree a b c d A C =
-    ap (λ (t : Bool). cond {A = ℕ} t 0 1)
-    (ap₂ _&&_ (ap₂ sameList (A .order) (C .order)) (ap₂ sameTiles (A .entries) (C .entries)))
+same-agree a b c d A C = ap₂ _&&_ (ap₂ sameList (A .order) (C .order)) (ap₂ sameTiles (A .entries) (C .entries))
+
+move-agree : (a b c d : Layout) → LayoutsAgree a b → LayoutsAgree c d → moveOf a c ≡ moveOf b d
+move-agree a b c d A C = ap (λ (t : Bool). cond {A = ℕ} t 0 1) (same-agree a b c d A C)
 
 -- tests that agree below n
 every-agree : (f g : ℕ → Bool) (n : ℕ) → ((k : ℕ) → k < n → f k ≡ g k) → every f n ≡ every g n
@@ -86,6 +91,13 @@ module _ (s : Shape) (xs ys : List Station) (A : StationsAgree xs ys) where
       every-agree _ _ (stationAt xs i .count) (λ a l. ap (λ (p : ℕ). leb p maxCount) (padded-agree s _ _ (A .layouts i a l)))
       ∙ ap (every (λ (a : ℕ). leb (paddedOf s (layoutAt (stationAt ys i) a)) maxCount)) (A .count i)
 
+  repeats-agree : (n : ℕ) (zs : List Rule) → judge (repeatRule xs n ∷ zs) ≡ judge (repeatRule ys n ∷ zs)
+  repeats-agree n zs =
+      sym (rule-first (repeatRule xs n) zs)
+      ∙ ap (λ (v : Verdict). firstRefusal v (judge zs))
+      (rule-alike xs ys n (λ i l. A .count i) (λ i a b l g f. same-agree _ _ _ _ (A .layouts i a (omega arith)) (A .layouts i b f)))
+      ∙ rule-first (repeatRule ys n) zs
+
   module _ (number cells moves : ℕ) where
     rules-agree : judge (routeRules s xs number cells moves) ≡ judge (routeRules s ys number cells moves)
     unfolding countsKept layoutsKept sizesKept
@@ -96,6 +108,8 @@ module _ (s : Shape) (xs ys : List Station) (A : StationsAgree xs ys) where
           every-agree (λ (i : ℕ). goodLayouts (s .rank) (stationAt xs i)) (λ (i : ℕ). goodLayouts (s .rank) (stationAt ys i)) (min number (length ys)) (λ i l. layouts-agree i),
           every-agree (λ (i : ℕ). goodSizes s (stationAt xs i)) (λ (i : ℕ). goodSizes s (stationAt ys i)) (min number (length ys)) (λ i l. sizes-agree i),
         )
+        (ap (λ (v : Verdict). unless (goodShape s) ShapeLimits (unless (goodLimits number cells moves && countsKept ys (recordsRead ys number)) Attribute (unless (layoutsKept s ys (recordsRead ys number)) LayoutRule v)))
+        (repeats-agree (recordsRead ys number) (sizeRules (sizesKept s ys (recordsRead ys number)) (length ys) number)))
 
     module _ (clean : breaksNoRule s xs number cells moves) where
       alike : Alike (netOf s xs number cells) (netOf s ys number cells)

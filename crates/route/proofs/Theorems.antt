@@ -3,14 +3,16 @@ use mathlib.Core.Path.{_≡_, refl, sym, ap, _∙_}
 use mathlib.Core.Bool.{Bool, true, false, cond}
 use mathlib.Core.Logic.{_⊎_}
 use mathlib.Core.List.{List, [], _∷_, _++_}
-use Prim.Native.Nat.{ℕ, _+_, _*_, _^_, _≤_}
+use Prim.Native.Nat.{ℕ, _+_, _*_, _^_, _<_, _≤_}
 use native.Mathlib.Omega.{arith}
+use lib.ListN.{getD}
 use borrow.Author.Tests.{ltb-true, ltb-false}
 use Rattle.refusal.specs.Number.{Answer, done, refusal}
 use Rattle.refusal.specs.Judge.{judge}
 use Rattle.refusal.specs.declared.Refusal.{Refusal}
-use Rattle.refusal.specs.declared.Refusal.the-variants.{NoPlan}
+use Rattle.refusal.specs.declared.Refusal.the-variants.{RepeatedLayout, NoPlan}
 use Rattle.refusal.specs.declared.Verdict.the-variants.{Refused}
+use Rattle.shape.specs.Shape.{goodShape}
 use Rattle.shape.specs.declared.Shape.{Shape}
 use Rattle.layout.specs.declared.Layout.{Layout}
 use Rattle.plan.specs.Net.{Net, planCost, Before, Admitted, Best}
@@ -19,13 +21,17 @@ use Rattle.plan.specs.Answer.{spread}
 use Rattle.plan.proofs.Bounds.{Small}
 use Rattle.plan.proofs.Theorems.{best-found, none-found, cost-at-most, best-one}
 use Rattle.route.specs.Same.{sameLayout, moveOf}
-use Rattle.route.specs.Stations.{stationAt, layoutAt, netOf}
-use Rattle.route.specs.Route.{routeRules, breaksNoRule, routeZeros, routePlan, routeValues, routeOf}
+use Rattle.route.specs.Stations.{stationAt, layoutAt, countsKept, layoutsKept, IsPlan, netOf}
+use Rattle.route.specs.LayoutRepeats.{FirstLayoutRepeat}
+use Rattle.route.specs.Route.{goodLimits, recordsRead, routeRules, breaksNoRule, routeZeros, routePlan, routeValues, routeOf}
 use Rattle.route.specs.declared.Station.{Station}
 use Rattle.route.proofs.Written.{Written, written-same, same-written}
+use Rattle.route.proofs.LayoutRepeats.{named-first, kept-different, twice-broken}
 use Rattle.route.proofs.Judging.{unbroken}
 use Rattle.route.proofs.Answering.{answer-refused, answer-none, answer-values}
 use Rattle.route.proofs.PastCounts.{StationsAgree, past-counts}
+use Rattle.route.proofs.RepeatAnswers.{answer-repeat, repeat-of}
+use Rattle.route.proofs.Plans.{admitted-plan, same-plan}
 
 -- Neighbours do not move exactly when their layouts have the same order and the same tiles, up to their counts.
 pub no-move : (a b : Layout) → moveOf a b ≡ 0 → Written a b
@@ -46,12 +52,42 @@ pub past-counts-alter-nothing :
     routeOf s xs number cells moves ≡ routeOf s ys number cells moves
 past-counts-alter-nothing = past-counts
 
--- Where one of the rules 1 to 9 is broken, the answer is the refusal of the first, with zeros.
+-- Where one of the rules 1 to 9 is broken, the answer is the refusal of the first, with zeros for all values.
 pub rule-refused :
     (s : Shape) (ys : List Station) (number cells moves : ℕ) (r : Refusal) →
     judge (routeRules s ys number cells moves) ≡ Refused r →
     routeOf s ys number cells moves ≡ refusal routeZeros r
 rule-refused s ys number cells moves r e = sym (answer-refused s ys number cells moves r e)
+
+-- A list that holds a layout twice is refused with 3, naming the first such station and the first repeat of its list, wherever 1, 2 and
+-- every other cause of 3 do not apply: before 4, 9 and 10.
+pub repeat-refused :
+    (s : Shape) (ys : List Station) (number cells moves : ℕ) →
+    goodShape s ≡ true →
+    goodLimits number cells moves ≡ true →
+    countsKept ys (recordsRead ys number) ≡ true →
+    layoutsKept s ys (recordsRead ys number) ≡ true →
+    (i e l : ℕ) →
+    FirstLayoutRepeat ys (recordsRead ys number) i e l →
+    routeOf s ys number cells moves ≡ refusal routeZeros (RepeatedLayout i e l)
+repeat-refused s ys number cells moves g m c k i e l F = answer-repeat s ys number cells moves g m c k F
+
+-- And only then: three places that an answer names are the first station of those read whose list holds a layout twice, and its first repeat.
+pub refused-repeat :
+    (s : Shape) (ys : List Station) (number cells moves i e l : ℕ) →
+    routeOf s ys number cells moves .places ≡ i ∷ e ∷ l ∷ [] →
+    FirstLayoutRepeat ys (recordsRead ys number) i e l
+refused-repeat s ys number cells moves i e l q = repeat-of s ys number cells moves i e l q
+
+-- There is such a first repeat as soon as one list holds two layouts equal as written.
+pub repeat-found :
+    (ys : List Station) (n i a b : ℕ) →
+    i < n →
+    a < b →
+    b < stationAt ys i .count →
+    Written (layoutAt (stationAt ys i) a) (layoutAt (stationAt ys i) b) →
+    (j : ℕ) × (e : ℕ) × (l : ℕ) × FirstLayoutRepeat ys n j e l
+repeat-found ys n i a b h l g w = (_, _, _, named-first ys n (twice-broken ys n i a b h l g (same-written _ _ w)))
 
 module _ (s : Shape) (ys : List Station) (number cells moves : ℕ) (clean : breaksNoRule s ys number cells moves) where
   abbrev net : Net
@@ -70,6 +106,20 @@ module _ (s : Shape) (ys : List Station) (number cells moves : ℕ) (clean : bre
       go : (t : Bool) → cond t 0 1 ≤ 1
       go true = omega arith
       go false = omega arith
+
+  -- Of an input that breaks no rule: two plans with the same layouts at every station, as written, are the same plan.
+  pub same-layouts-same-plan :
+      (p q : List ℕ) →
+      IsPlan ys number p →
+      IsPlan ys number q →
+      ((i : ℕ) → i < number → Written (layoutAt (stationAt ys i) (getD p i 0)) (layoutAt (stationAt ys i) (getD q i 0))) →
+      p ≡ q
+  same-layouts-same-plan =
+      same-plan ys number (kept-different ys number (unbroken s ys number cells moves clean .lists))
+
+  -- Admitted plans are such plans.
+  pub admitted-is-plan : (p : List ℕ) → Admitted net moves p → IsPlan ys number p
+  admitted-is-plan = admitted-plan s ys number cells moves
 
   abbrev Refused10 : Type 0
   Refused10 = routeOf s ys number cells moves .number ≡ 10

@@ -1,4 +1,5 @@
 pub mod Same
 pub mod Stations
+pub mod LayoutRepeats
 pub mod Route
 pub mod Loading

@@ -1,14 +1,15 @@
 -- What is kept of the stations read so far. Assumes nothing.
 use Prim.Native.Nat.{ℕ, _+_, _*_, _/_, _%_, _^_, _≤_, _<_, min}
 use mathlib.Core.Path.{_≡_}
-use mathlib.Core.Bool.{true, _&&_, cond}
+use mathlib.Core.Bool.{Bool, true, _&&_, cond}
 use mathlib.Core.Logic.{_⊎_}
-use mathlib.Core.List.{List}
-use lib.Dec.{ltb}
+use mathlib.Core.List.{List, [], _∷_}
+use lib.Dec.{leb, ltb}
 use lib.ListN.{length, getD}
-use Rattle.refusal.specs.Judge.{judge}
+use Rattle.refusal.specs.Judge.{Rule, rule, unless, judge}
+use Rattle.refusal.specs.declared.Refusal.the-variants.{PaddedSize, ShortBuffer}
 use Rattle.refusal.specs.declared.Verdict.{Verdict}
-use Rattle.refusal.specs.declared.Verdict.the-variants.{Done}
+use Rattle.refusal.specs.declared.Verdict.the-variants.{Done, Refused}
 use Rattle.radix.specs.Radix.{maxCount}
 use Rattle.shape.specs.Shape.{goodShape}
 use Rattle.shape.specs.declared.Shape.{Shape}
@@ -16,6 +17,7 @@ use Rattle.layout.specs.Layout.{goodLayout, paddedOf}
 use Rattle.plan.specs.Answer.{maxStations}
 use Rattle.route.specs.Same.{moveOf}
 use Rattle.route.specs.Stations.{maxLayouts, stationAt, layoutAt, countsKept, layoutsKept, sizesKept}
+use Rattle.route.specs.LayoutRepeats.{allDifferent, repeatIn, repeatRule}
 use Rattle.route.specs.Route.{goodLimits, routeRules, routeAnswer, routeOf}
 use Rattle.route.specs.declared.Route.{Route}
 use Rattle.route.specs.declared.Station.{Station}
@@ -47,6 +49,15 @@ cappedSize s x a = min (paddedOf s (layoutAt x a)) (maxCount + 1)
 abbrev pub moveAt : Station → Station → ℕ → ℕ
 moveAt x y t =
     cond (ltb (t / maxLayouts) (x .count) && ltb (t % maxLayouts) (y .count)) (moveOf (layoutAt x (t / maxLayouts)) (layoutAt y (t % maxLayouts))) 0
+
+-- the first of two verdicts, in their order, that refuses
+abbrev pub firstRefusal : Verdict → Verdict → Verdict
+firstRefusal Done w = w
+firstRefusal (Refused r) w = Refused r
+
+-- what the list of station i says by itself: refused at its first repeat
+abbrev pub stationRepeat : Station → ℕ → Verdict
+stationRepeat x i = unless (allDifferent x) (repeatIn x i) Done
 
 -- the tables hold what the first n stations give
 pub record Entered (s : Shape) (ys : List Station) (n : ℕ) (h : Loaded) : Type 0 where
@@ -85,6 +96,7 @@ pub record Holds (s : Shape) (ys : List Station) (n : ℕ) (h : Loaded) : Type 0
   pub sound : Sound (s .rank) h
   pub counts : h .«counts_kept» ≡ countsKept ys n
   pub layouts : countsKept ys n ≡ true → h .«layouts_kept» ≡ layoutsKept s ys n
+  pub repeat : countsKept ys n ≡ true → layoutsKept s ys n ≡ true → h .repeat ≡ judge (repeatRule ys n ∷ [])
   pub sizes : countsKept ys n ≡ true → layoutsKept s ys n ≡ true → h .«sizes_kept» ≡ sizesKept s ys n
   pub entered : countsKept ys n ≡ true → layoutsKept s ys n ≡ true → Entered s ys n h
 
@@ -102,6 +114,10 @@ pub record Loads (s : Shape) (ys : List Station) (n : ℕ) (h : Loaded) : Type 0
 -- the station x is read after the first i
 pub record Adds (s : Shape) (h : Loaded) (i : ℕ) (x : Station) (r : Loaded) : Type 0 where
   pub more : (ys : List Station) → Holds s ys i h → stationAt ys i ≡ x → Holds s ys (i + 1) r
+
+-- the rules 4 and 9: whether the padded sizes keep their rule, and the length of the list
+abbrev pub sizeRules : Bool → ℕ → ℕ → List Rule
+sizeRules sizes len number = rule sizes PaddedSize ∷ rule (leb number len) ShortBuffer ∷ []
 
 -- what the rules 1 to 9 say of every list of length len of which this was read
 pub record Judges (s : Shape) (h : Loaded) (len number cells moves : ℕ) (v : Verdict) : Type 0 where

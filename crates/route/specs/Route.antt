@@ -16,6 +16,7 @@ use Rattle.shape.specs.declared.Shape.{Shape}
 use Rattle.plan.specs.Net.{planCost}
 use Rattle.plan.specs.Value.{bestPlan, hasPlan}
 use Rattle.plan.specs.Answer.{maxStations, spread}
+use Rattle.route.specs.LayoutRepeats.{repeatRule}
 use Rattle.route.specs.Stations.{countsKept, layoutsKept, sizesKept, netOf}
 use Rattle.route.specs.declared.Station.{Station}
 use Rattle.route.specs.declared.Route.{Route}
@@ -39,6 +40,7 @@ routeRules s ys number cells moves =
     rule (goodShape s) ShapeLimits
     ∷ rule (goodLimits number cells moves && countsKept ys (recordsRead ys number)) Attribute
     ∷ rule (layoutsKept s ys (recordsRead ys number)) LayoutRule
+    ∷ repeatRule ys (recordsRead ys number)
     ∷ rule (sizesKept s ys (recordsRead ys number)) PaddedSize
     ∷ rule (leb number (length ys)) ShortBuffer
     ∷ []

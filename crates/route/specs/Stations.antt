@@ -1,9 +1,10 @@
 -- Stations: their layouts, their rules, and what a list of them gives the planner. Assumes nothing.
-use Prim.Native.Nat.{ℕ, _+_}
+use Prim.Native.Nat.{ℕ, _+_, _<_}
+use mathlib.Core.Path.{_≡_}
 use mathlib.Core.Bool.{Bool, _&&_}
 use mathlib.Core.List.{List, []}
 use lib.Dec.{leb}
-use lib.ListN.{getD}
+use lib.ListN.{length, getD}
 use Rattle.radix.specs.Radix.{maxCount, every}
 use Rattle.shape.specs.declared.Shape.{Shape}
 use Rattle.layout.specs.Layout.{goodLayout, paddedOf}
@@ -51,6 +52,11 @@ layoutsKept s ys n = every (λ (i : ℕ). goodLayouts (s .rank) (stationAt ys i)
 
 unfoldable pub sizesKept : Shape → List Station → ℕ → Bool
 sizesKept s ys n = every (λ (i : ℕ). goodSizes s (stationAt ys i)) n
+
+-- a plan: one list place per station, from 0 and below that station's count of layouts
+pub record IsPlan (ys : List Station) (number : ℕ) (p : List ℕ) : Type 0 where
+  pub long : length p ≡ number
+  pub below : (i : ℕ) → i < number → getD p i 0 < stationAt ys i .count
 
 -- the stations as the planner sees them: padded sizes, and where neighbours move
 abbrev pub netOf : Shape → List Station → ℕ → ℕ → Net

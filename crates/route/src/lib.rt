@@ -1,5 +1,6 @@
 // A route through stations: the cheapest plan of layouts within a cell limit and a limit on moves.
 mod load;
+mod repeats;
 mod same;
 
 use layout::Layout;
@@ -7,13 +8,15 @@ use load::Loaded;
 use plan::Tables;
 use refusal::Refusal;
 use refusal::Verdict;
+use repeats::first_refusal;
 use shape::Shape;
 ghost use mathlib.Core.Path.{_≡_};
 ghost use Prim.Native.Nat.{min};
 ghost use lib.ListN.{take};
+ghost use Rattle.refusal.specs.Judge.{judge};
 ghost use Rattle.plan.specs.Answer.{maxStations};
 ghost use Rattle.route.specs.Route.{goodLimits, noRouteOf, routeAnswer, routeOf};
-ghost use Rattle.route.specs.Loading.{Sound, Judges, Answers};
+ghost use Rattle.route.specs.Loading.{Sound, sizeRules, Judges, Answers};
 
 // The most stations, of layouts of a station, and of moves.
 pub const MAX_STATIONS: usize = 64;
@@ -54,6 +57,19 @@ fn good_limits(number: usize, cells: u64, moves: usize) -> bool
     moves <= MAX_MOVES
 }
 
+// The rules 4 and 9: whether the padded sizes keep their rule, and the length of the lent list.
+fn judge_sizes(kept: bool, len: usize, number: usize) -> Verdict
+    ensures { λ r. ⌜ r ≡ judge (sizeRules kept len number) ⌝ }
+{
+    if !kept {
+        return Verdict::Refused(Refusal::PaddedSize);
+    }
+    if len < number {
+        return Verdict::Refused(Refusal::ShortBuffer);
+    }
+    Verdict::Done
+}
+
 // The rules 1 to 9, in the order of their numbers; len is the length of the lent list.
 fn judge_route(
     shape: Shape,
@@ -77,13 +93,8 @@ fn judge_route(
     if !loaded.layouts_kept {
         return Verdict::Refused(Refusal::LayoutRule);
     }
-    if !loaded.sizes_kept {
-        return Verdict::Refused(Refusal::PaddedSize);
-    }
-    if len < number {
-        return Verdict::Refused(Refusal::ShortBuffer);
-    }
-    Verdict::Done
+    let repeat = loaded.repeat;
+    first_refusal(repeat, judge_sizes(loaded.sizes_kept, len, number))
 }
 
 // No route, with its refusal.

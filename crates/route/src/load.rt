@@ -1,7 +1,10 @@
 // What is kept of the stations read so far: whether they keep their rules, and the planner's tables.
 use super::Station;
+use super::repeats::first_refusal;
+use super::repeats::station_repeat;
 use super::same;
 use layout::Layout;
+use refusal::Verdict;
 use shape::Shape;
 ghost use mathlib.Core.Path.{_≡_};
 ghost use mathlib.Core.Bool.{true};
@@ -12,10 +15,12 @@ ghost use Rattle.plan.specs.Answer.{maxStations};
 ghost use Rattle.route.specs.Stations.{maxLayouts, stationAt, goodCount, goodLayouts, goodSizes};
 ghost use Rattle.route.specs.Loading.{Reads, Fit, Filled, cappedSize, moveAt, Sound, Ready, MovesEntered, Starts, Adds, Loads, Holds};
 
-// Whether the counts, the layouts and the padded sizes keep their rules; the planner's tables; and the last station read.
+// Whether the counts, the layouts and the padded sizes keep their rules; the first layout that stands twice in a list; the
+// planner's tables; and the last station read.
 pub struct Loaded {
     pub counts_kept: bool,
     pub layouts_kept: bool,
+    pub repeat: Verdict,
     pub sizes_kept: bool,
     pub counts: [usize; 64],
     pub sizes: [u64; 512],
@@ -41,6 +46,7 @@ pub fn empty() -> Loaded
     Loaded {
         counts_kept: true,
         layouts_kept: true,
+        repeat: Verdict::Done,
         sizes_kept: true,
         counts: [0usize; 64],
         sizes: [0u64; 512],
@@ -175,6 +181,8 @@ fn enter(shape: Shape, loaded: Loaded, i: usize, station: Station) -> Loaded
     requires { ⌜ (goodCount station ≡ true) × (goodLayouts (shape .rank) station ≡ true) ⌝ }
     ensures { λ r. ⌜ Adds shape loaded i station r ⌝ }
 {
+    let before = loaded.repeat;
+    let repeat = first_refusal(before, station_repeat(shape.rank, station, i));
     let moved = with_moves(shape.rank, loaded, i, station);
     let mut counts = loaded.counts;
     counts[i] = station.count;
@@ -187,6 +195,7 @@ fn enter(shape: Shape, loaded: Loaded, i: usize, station: Station) -> Loaded
     Loaded {
         counts_kept: loaded.counts_kept,
         layouts_kept: loaded.layouts_kept,
+        repeat,
         sizes_kept,
         counts,
         sizes,

@@ -10,7 +10,7 @@ fn table() -> Shape {
     Shape { rank: 2, sizes }
 }
 
-// One of 16 layouts: either order, and a tile of 1, 2, 4 or 8 by 16 or 32.
+// One of 16 layouts: either order, and a tile of 1, 3, 5 or 7 by 16 or 32.
 fn layout_of(k: u64) -> Layout {
     let minor = k % 2;
     let rows = 1 + k / 2 % 4 * 2;
@@ -56,14 +56,16 @@ pub struct Made {
     pub state: u64,
 }
 
-// A station of 8 layouts.
+// A station of 8 different layouts: of the 16 in a circle, from one of them on in steps of an odd number.
 fn station_of(seed: u64) -> Made {
+    let state = next(seed);
+    let step = 1 + state / 4096 % 8 * 2;
     let mut layouts = [layout_of(0); 8];
-    let mut state = seed;
+    let mut k = state / 65536 % 16;
     let mut a: usize = 0;
     while a < 8 {
-        state = next(state);
-        layouts[a] = layout_of(state / 65536);
+        layouts[a] = layout_of(k);
+        k = (k + step) % 16;
         a += 1;
     }
     let station = Station { count: 8, layouts };

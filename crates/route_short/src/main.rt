@@ -1,4 +1,5 @@
-// Shows number 9 of a route: a list of stations that is one record short, and the same list whole.
+// Shows number 9 of a route: a list of stations that is one record short, and the same list whole; and that a layout that stands
+// twice is judged before it, on the records lent.
 use layout::Layout;
 use libc::STDOUT_FILENO;
 use refusal::Verdict;
@@ -6,8 +7,8 @@ use route::Route;
 use route::Station;
 use shape::Shape;
 
-// A station that accepts the untiled layout of a table of rank 1.
-fn station() -> Station {
+// A station that lists the untiled layout of a table of rank 1, so many times.
+fn station(count: usize) -> Station {
     let layout = Layout {
         rank: 1,
         minor_to_major: [0; 6],
@@ -16,18 +17,18 @@ fn station() -> Station {
         tile: [0; 18],
     };
     Station {
-        count: 1,
+        count,
         layouts: [layout; 8],
     }
 }
 
-// The route of a table of 5 elements through a number of stations, of which some are lent.
-fn through(lent: usize, number: usize) -> Route {
+// The route of a table of 5 elements through a number of stations with so many layouts, of which some are lent.
+fn through(lent: usize, number: usize, count: usize) -> Route {
     let shape = Shape {
         rank: 1,
         sizes: [5; 6],
     };
-    let stations = [station(); 64];
+    let stations = [station(count); 64];
     route::best_route_of(shape, stations, lent, number, 100, 0)
 }
 
@@ -54,8 +55,10 @@ fn show(answer: Route) {
 }
 
 fn main() {
-    show(through(3, 3));
-    show(through(2, 3));
-    show(through(0, 1));
-    show(through(64, 64));
+    show(through(3, 3, 1));
+    show(through(2, 3, 1));
+    show(through(0, 1, 1));
+    show(through(64, 64, 1));
+    show(through(2, 3, 2));
+    show(through(0, 1, 2));
 }

@@ -3,7 +3,8 @@ use mathlib.Core.Path.{_≡_, refl}
 use mathlib.Core.List.{map}
 use Rattle.radix.specs.Radix.{isWithin}
 use Rattle.shape.specs.Shape.{goodShape}
-use Rattle.shape.specs.Dimensions.{place, inRange, laterPlace, isPermutation}
+use Rattle.shape.specs.Repeats.{laterIn, earlierIn}
+use Rattle.shape.specs.Dimensions.{place, inRange, isPermutation}
 use Rattle.shape.specs.Answers.{elementCount}
 use Rattle.reciprocal.specs.Answers.{multiplierEntry}
 use Rattle.tiling.specs.Tile.{tileDims, tileIndex, physical, padded, offsetAt, offset}
@@ -14,11 +15,12 @@ use Rattle.plan.specs.Net.{price, movesOf, costOf}
 use Rattle.plan.specs.Value.{leastOf, placeOf, through, valueOf, planOf}
 use Rattle.route.specs.Same.{sameBy, sameLayout}
 use Rattle.route.specs.Stations.{blank, countsKept, layoutsKept, sizesKept}
+use Rattle.route.specs.LayoutRepeats.{repeatStation}
 use Rattle.route.specs.Route.{goodLimits, routeOf}
 use Rattle.operation_maps.proofs.Samples.{makes-maps}
 use Rattle.samples.specs.Samples.{Sample, samples}
 
 -- Every sample comes out as its document says.
 pub all-samples : map (λ (s : Sample). s .asked) samples ≡ map (λ (s : Sample). s .expected) samples
-unfolding samples multiplierEntry elementCount paddedSize pointOffset elementHeld goodShape goodLayout isWithin isPermutation inRange laterPlace place padded physical offsetAt offset tileDims tileIndex untile candidate cell routeOf goodLimits countsKept layoutsKept sizesKept blank sameBy sameLayout price movesOf costOf leastOf placeOf through valueOf planOf makes-maps
+unfolding samples multiplierEntry elementCount paddedSize pointOffset elementHeld goodShape goodLayout isWithin isPermutation inRange laterIn earlierIn place padded physical offsetAt offset tileDims tileIndex untile candidate cell routeOf goodLimits countsKept layoutsKept sizesKept repeatStation blank sameBy sameLayout price movesOf costOf leastOf placeOf through valueOf planOf makes-maps
 all-samples = refl

@@ -5,7 +5,7 @@ use lib.IntN.{ℤ, pos, negsuc}
 use lib.ListN.{length, replicate}
 use Rattle.integer.specs.Floor.{floorDiv, floorMod}
 use Rattle.refusal.specs.Number.{Answer, done, refusal}
-use Rattle.refusal.specs.declared.Refusal.the-variants.{ShapeLimits, LayoutRule, Outside, NoPlan}
+use Rattle.refusal.specs.declared.Refusal.the-variants.{ShapeLimits, LayoutRule, RepeatedLayout, Outside, NoPlan}
 use Rattle.shape.specs.Answers.{elementCount}
 use Rattle.shape.specs.declared.Shape.{Shape}
 use Rattle.reciprocal.specs.Answers.{multiplierEntry}
@@ -114,6 +114,8 @@ samples =
     -- stations [T], [A] with K = 0: 10; [4,4], one station [{1,0}, {0,1}]: place 0, total 16
     ∷ says (through (matrix 3 5) (station (T ∷ []) ∷ station (A ∷ []) ∷ []) 0) (refusal routeZeros NoPlan)
     ∷ says (through (matrix 4 4) (station (untiled 1 0 ∷ untiled 0 1 ∷ []) ∷ []) 0) (gives (0 ∷ []) 16)
+    -- the same layout twice (Q-9): stations [A], [A, {0,1}, A]: 3, station 1, places 0 and 2
+    ∷ says (through (matrix 3 5) (station (A ∷ []) ∷ station (A ∷ untiled 0 1 ∷ A ∷ []) ∷ []) 1) (refusal routeZeros (RepeatedLayout 1 0 2))
     -- tile entry 1,024 passes, 1,025 is 3; size 2^20 passes; 0 and 2^20 + 1 are 1
     ∷ says (paddedSize (matrix 3 5) (tiled 1024 1)) (at 5120)
     ∷ says (paddedSize (matrix 3 5) (tiled 1025 1)) (refusal (0 ∷ []) LayoutRule)

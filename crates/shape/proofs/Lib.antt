@@ -1,3 +1,4 @@
+pub mod FirstRepeats
 pub mod Repeats
 pub mod Limits
 pub mod Permutations

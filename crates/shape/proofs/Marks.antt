@@ -10,10 +10,12 @@ use lib.ListN.{length, getD, set, replicate, length-set, length-replicate, getD-
 use lib.Seq.{getD-set-same, getD-set-other}
 use borrow.Author.Count.{below-none, below-more}
 use borrow.Author.Tests.{eq-eqb, ne-eqb, eqb-true, eqb-false, lt-ltb, le-ltb, le-leb, lt-leb}
-use Rattle.radix.proofs.Tests.{every-all, every-not, and-true, and-false, first-is, first-none}
+use Rattle.radix.proofs.Tests.{every-all, every-not, and-true, and-false, first-is}
 use Rattle.radix.proofs.Lists.{le-or-lt}
-use Rattle.shape.specs.Dimensions.{place, inRange, repeats, laterPlace, isPermutation}
-use Rattle.shape.proofs.Repeats.{place-at}
+use Rattle.shape.specs.Repeats.{laterIn}
+use Rattle.shape.specs.Dimensions.{place, inRange, sameDimension, repeats, laterPlace, isPermutation}
+use Rattle.shape.proofs.FirstRepeats.{none-later}
+use Rattle.shape.proofs.Repeats.{place-at, place-below}
 use Rattle.shape.proofs.Permutations.{place-le}
 
 -- before place i every dimension is below the length and stands once, and what has its first place there is marked
@@ -31,6 +33,10 @@ past a i n =
     (λ (l : a < i + 1). lt-ltb a i (omega (arith, n)) ∙ sym (lt-ltb a (i + 1) l))
     (le-or-lt (i + 1) a)
 
+-- a place repeats an earlier one just when its dimension's place lies before it
+repeats-place : (xs : List ℕ) (k : ℕ) → k < length xs → repeats xs k ≡ ltb (place (getD xs k 0) xs) k
+repeats-place xs k l = ap (λ (p : ℕ). ltb p k) (place-below xs k l)
+
 pub marked-none : (n : ℕ) (xs : List ℕ) → length xs ≤ n → Marked xs 0 (replicate n 0)
 marked-none n xs h =
     record {
@@ -41,9 +47,9 @@ marked-none n xs h =
     }
 
 pub marked-all : (xs met : List ℕ) (i : ℕ) → length xs ≤ i → Marked xs i met → true ≡ isPermutation xs
-unfolding isPermutation inRange laterPlace
+unfolding isPermutation inRange
 marked-all xs met i h m =
-    let e = first-none (repeats xs) (length xs) (λ k l. m .once k (omega arith)) in
+    let e = none-later (sameDimension xs) (length xs) (λ k l. m .once k (omega arith)) in
     sym (and-true (every-all (λ (k : ℕ). ltb (getD xs k 0) (length xs)) (length xs) (λ k l. m .below k (omega arith))) (le-leb (length xs) (laterPlace xs) (omega (arith, e))))
 
 -- the step at place i, by the dimension there
@@ -57,9 +63,9 @@ module _ (xs : List ℕ) (i : ℕ) (h : i < length xs) where
 
   module _ (met : List ℕ) (m : Marked xs i met) (l : here < length xs) where
     pub met-again : getD met here 0 ≡ 1 → false ≡ isPermutation xs
-    unfolding isPermutation laterPlace
+    unfolding isPermutation laterIn
     met-again e =
-        let p = first-is (repeats xs) (length xs) i h (sym (m .marks here l) ∙ eq-eqb (getD met here 0) 1 e) (m .once) in
+        let p = first-is (repeats xs) (length xs) i h (repeats-place xs i h ∙ sym (m .marks here l) ∙ eq-eqb (getD met here 0) 1 e) (m .once) in
         sym (and-false (inRange (length xs) xs) (lt-leb (length xs) (laterPlace xs) (omega (arith, p))))
 
     pub marked-more : (getD met here 0 ≡ 1 → ⊥) → Marked xs (i + 1) (set met here 1)
@@ -67,7 +73,7 @@ module _ (xs : List ℕ) (i : ℕ) (h : i < length xs) where
         record {
           room = omega (arith, m .room, length-set met here 1);
           below = below-more _ i (m .below) (lt-ltb here (length xs) l);
-          once = below-more _ i (m .once) (sym (m .marks here l) ∙ ne-eqb (getD met here 0) 1 n);
+          once = below-more _ i (m .once) (repeats-place xs i h ∙ sym (m .marks here l) ∙ ne-eqb (getD met here 0) 1 n);
           marks = λ d g. go d g (eqb d here) refl;
         }
       where

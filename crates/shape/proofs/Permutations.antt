@@ -1,18 +1,19 @@
 -- Laws of permutations: what the test says, and lists read from their end. Assumes nothing.
 use mathlib.Core.Path.{_≡_, sym, ap, _∙_}
-use mathlib.Core.Bool.{true, false}
+use mathlib.Core.Bool.{true}
 use mathlib.Core.Logic.{⊎-elim}
 use Prim.Native.Nat.{ℕ, _<_, _≤_}
 use native.Mathlib.Omega.{arith}
 use mathlib.Core.List.{List}
 use lib.Dec.{ltb}
 use lib.ListN.{length, getD}
-use borrow.Author.Tests.{lt-ltb, ltb-true, le-leb, leb-true, ltb-false}
-use Rattle.radix.proofs.Tests.{every-all, every-at, and-left, and-right, and-true, first-none, first-before}
+use borrow.Author.Tests.{lt-ltb, ltb-true, ne-eqb, eqb-false}
+use Rattle.radix.proofs.Tests.{every-all, every-at, and-left, and-right, and-true}
 use Rattle.radix.proofs.Lists.{le-or-lt}
 use Rattle.radix.proofs.Pigeonhole.{none-left-out}
-use Rattle.shape.specs.Dimensions.{place, inRange, repeats, laterPlace, free, isPermutation, Permutation}
-use Rattle.shape.proofs.Repeats.{place-at, place-before, no-repeat}
+use Rattle.shape.specs.Dimensions.{place, inRange, sameDimension, free, isPermutation, Permutation}
+use Rattle.shape.proofs.FirstRepeats.{different-free, free-different}
+use Rattle.shape.proofs.Repeats.{place-at, place-before}
 
 -- no two places hold the same
 abbrev pub Apart : List ℕ → Type 0
@@ -23,16 +24,10 @@ pub place-le : (j : ℕ) (xs : List ℕ) (k : ℕ) → getD xs k 0 ≡ j → pla
 place-le j xs k e = ⊎-elim (λ h. h) (λ g. absurd (place-before j xs k g e)) (le-or-lt (place j xs) k)
 
 pub apart-free : (xs : List ℕ) → Apart xs → free xs ≡ true
-unfolding laterPlace
-apart-free xs a =
-    let e = first-none (repeats xs) (length xs) (λ k h. no-repeat xs k h (λ i l. a i k l h)) in
-    le-leb (length xs) (laterPlace xs) (omega (arith, e))
+apart-free xs a = different-free (sameDimension xs) (length xs) (λ i k l h. ne-eqb (getD xs i 0) (getD xs k 0) (a i k l h))
 
 pub free-apart : (xs : List ℕ) → free xs ≡ true → Apart xs
-unfolding laterPlace
-free-apart xs e i j l h q =
-    let f : repeats xs j ≡ false = first-before (repeats xs) (length xs) j (omega (arith, leb-true (length xs) (laterPlace xs) e)) in
-    absurd (omega (arith, ltb-false (place (getD xs j 0) xs) j f, place-le (getD xs j 0) xs i q))
+free-apart xs e i j l h = eqb-false (getD xs i 0) (getD xs j 0) (free-different (sameDimension xs) (length xs) e i j l h)
 
 -- the test says that every number has its place
 pub permutation-of : (xs : List ℕ) → isPermutation xs ≡ true → Permutation xs

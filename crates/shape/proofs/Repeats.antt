@@ -1,19 +1,23 @@
 -- Laws of lists of dimensions: the first place of a dimension, and the first repeat. Assumes nothing.
-use mathlib.Core.Path.{_≡_, refl, ap}
+use mathlib.Core.Path.{_≡_, refl, sym, ap, _∙_}
 use mathlib.Core.Bool.{Bool, true, false, cond}
-use Prim.Native.Nat.{ℕ, _<_}
+use mathlib.Core.Logic.{⊎-elim}
+use Prim.Native.Nat.{ℕ, _<_, _≤_}
 use native.Mathlib.Omega.{arith}
 use mathlib.Core.List.{List, []}
 use lib.Dec.{eqb}
 use lib.ListN.{length, getD}
-use borrow.Author.Tests.{eq-eqb, ne-eqb, eqb-true, eqb-false, lt-ltb, le-ltb, le-leb, lt-leb}
+use borrow.Author.Tests.{eq-eqb, ne-eqb, eqb-true, eqb-false, le-leb, lt-leb}
 use Rattle.radix.specs.Radix.{first}
+use Rattle.radix.proofs.Lists.{le-or-lt}
 use Rattle.radix.proofs.Tests.{first-is, first-none, first-true, first-before}
 use Rattle.refusal.specs.Number.{Answer, done, refusal, numberOf}
 use Rattle.refusal.proofs.Theorems.{number-positive}
 use Rattle.refusal.specs.declared.Refusal.{Refusal}
 use Rattle.refusal.specs.declared.Refusal.the-variants.{Repeat}
-use Rattle.shape.specs.Dimensions.{place, repeats, laterPlace, earlierPlace, free, firstRepeat}
+use Rattle.shape.specs.Repeats.{earlierOf, FirstRepeat}
+use Rattle.shape.specs.Dimensions.{place, sameDimension, repeats, laterPlace, earlierPlace, free, firstRepeat}
+use Rattle.shape.proofs.FirstRepeats.{later-found, earlier-found, none-later}
 
 -- the first place of a dimension
 pub place-is : (j : ℕ) (xs : List ℕ) (k : ℕ) → k < length xs → getD xs k 0 ≡ j → ((i : ℕ) → i < k → getD xs i 0 ≡ j → ⊥) → place j xs ≡ k
@@ -32,28 +36,32 @@ pub place-before : (j : ℕ) (xs : List ℕ) (i : ℕ) → i < place j xs → ge
 unfolding place
 place-before j xs i l = eqb-false (getD xs i 0) j (first-before (λ (k : ℕ). eqb (getD xs k 0) j) (length xs) i l)
 
--- no repeat at place k where its entry stands at no earlier place
-pub no-repeat : (xs : List ℕ) (k : ℕ) → k < length xs → ((i : ℕ) → i < k → getD xs i 0 ≡ getD xs k 0 → ⊥) → repeats xs k ≡ false
-no-repeat xs k l h = le-ltb (place (getD xs k 0) xs) k (omega (arith, place-is (getD xs k 0) xs k l refl h))
+-- the first place before k that holds what k holds is the place of that dimension
+pub place-below : (xs : List ℕ) (k : ℕ) → k < length xs → earlierOf (sameDimension xs) k ≡ place (getD xs k 0) xs
+place-below xs k l =
+    ⊎-elim
+    (λ (h : k ≤ earlierOf (sameDimension xs) k).
+    let none : (i : ℕ) → i < k → sameDimension xs i k ≡ false = λ i g. first-before test k i (omega arith) in
+    first-none test k none ∙ sym (place-is (getD xs k 0) xs k l refl (λ i g. eqb-false (getD xs i 0) (getD xs k 0) (none i g))))
+    (λ (h : earlierOf (sameDimension xs) k < k).
+    sym
+    (place-is (getD xs k 0) xs (earlierOf (sameDimension xs) k) (omega arith)
+    (eqb-true (getD xs (earlierOf (sameDimension xs) k) 0) (getD xs k 0) (first-true test k h))
+    (λ i g. eqb-false (getD xs i 0) (getD xs k 0) (first-before test k i g))))
+    (le-or-lt k (earlierOf (sameDimension xs) k))
+  where
+    test : ℕ → Bool
+    test i = sameDimension xs i k
 
 -- the search that stops at the places e and l
-module _ (xs : List ℕ) (e l : ℕ) (below : e < l) (inside : l < length xs) (same : getD xs e 0 ≡ getD xs l 0)
-    (others : (i : ℕ) → i < e → getD xs i 0 ≡ getD xs l 0 → ⊥) (none : (k : ℕ) → k < l → repeats xs k ≡ false) where
-  earlier-is : place (getD xs l 0) xs ≡ e
-  earlier-is = place-is (getD xs l 0) xs e (omega arith) same others
-
-  pub later-is : laterPlace xs ≡ l
-  unfolding laterPlace
-  later-is = first-is (repeats xs) (length xs) l inside (lt-ltb (place (getD xs l 0) xs) l (omega (arith, earlier-is))) none
-
-  pub repeat-found : refusal {A = ℕ} [] (Repeat e l) ≡ firstRepeat xs
-  unfolding firstRepeat earlierPlace
-  repeat-found = rw (later-is, lt-leb (length xs) l inside, earlier-is)
+pub repeat-found : (xs : List ℕ) {e l : ℕ} → FirstRepeat (sameDimension xs) (length xs) e l → refusal {A = ℕ} [] (Repeat e l) ≡ firstRepeat xs
+unfolding firstRepeat
+repeat-found xs F = rw (later-found _ _ F, earlier-found _ _ F, lt-leb _ _ (F .inside))
 
 -- the search that finds nothing
 pub repeat-none : (xs : List ℕ) → ((k : ℕ) → k < length xs → repeats xs k ≡ false) → done [] ≡ firstRepeat xs
-unfolding firstRepeat laterPlace
-repeat-none xs h = rw (first-none (repeats xs) (length xs) h, le-leb (length xs) (length xs) (omega arith))
+unfolding firstRepeat
+repeat-none xs h = rw (none-later (sameDimension xs) (length xs) h, le-leb (length xs) (length xs) (omega arith))
 
 -- what the answer says of the list
 pub free-done : (xs : List ℕ) → done {A = ℕ} [] ≡ firstRepeat xs → free xs ≡ true

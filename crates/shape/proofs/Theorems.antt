@@ -7,16 +7,16 @@ use Prim.Native.Nat.{ℕ, _<_}
 use native.Mathlib.Omega.{arith}
 use lib.Dec.{ltb}
 use lib.ListN.{length, getD}
-use borrow.Author.Tests.{lt-leb, ltb-true, lt-ltb}
+use borrow.Author.Tests.{lt-leb, lt-ltb, eqb-true}
 use Rattle.radix.specs.Radix.{rowMajor, digits, In}
 use Rattle.radix.proofs.Radix.{below, digits-rowMajor, rowMajor-digits, digits-in}
-use Rattle.radix.proofs.Tests.{and-right, and-true, every-all, first-true, first-before}
+use Rattle.radix.proofs.Tests.{and-right, and-true, every-all}
 use Rattle.refusal.specs.Number.{done, refusal}
 use Rattle.refusal.specs.declared.Refusal.the-variants.{Repeat}
 use Rattle.shape.specs.Shape.{sizesOf, countOf}
-use Rattle.shape.specs.Dimensions.{place, inRange, repeats, laterPlace, earlierPlace, free, firstRepeat, isPermutation, Permutation}
+use Rattle.shape.specs.Dimensions.{inRange, sameDimension, repeats, laterPlace, earlierPlace, free, firstRepeat, isPermutation, Permutation}
 use Rattle.shape.specs.declared.Shape.{Shape}
-use Rattle.shape.proofs.Repeats.{place-at}
+use Rattle.shape.proofs.FirstRepeats.{no-repeat, first-found}
 use Rattle.shape.proofs.Permutations.{apart-free, free-apart, permutation-of, permutation-is}
 
 -- The number of a point is one of the shape's elements, and the point of that number is the point.
@@ -47,7 +47,11 @@ repeat-absent xs a = rw (apart-free xs a)
 pub repeat-first : (xs : List ℕ) → laterPlace xs < length xs
     → (firstRepeat xs ≡ refusal [] (Repeat (earlierPlace xs) (laterPlace xs))) × (earlierPlace xs < laterPlace xs) × (getD xs (earlierPlace xs) 0 ≡ getD xs (laterPlace xs) 0)
     × ((k : ℕ) → k < laterPlace xs → repeats xs k ≡ false)
-unfolding firstRepeat laterPlace earlierPlace
+unfolding firstRepeat
 repeat-first xs h =
-    let t = ltb-true (place (getD xs (laterPlace xs) 0) xs) (laterPlace xs) (first-true (repeats xs) (length xs) h) in
-    (rw (lt-leb (length xs) (laterPlace xs) h), t, place-at (getD xs (laterPlace xs) 0) xs (omega arith), first-before (repeats xs) (length xs))
+    let F = first-found (sameDimension xs) (length xs) h in (
+      rw (lt-leb (length xs) (laterPlace xs) h),
+      F .below,
+      eqb-true (getD xs (earlierPlace xs) 0) (getD xs (laterPlace xs) 0) (F .alike),
+      λ k l. no-repeat (sameDimension xs) k (λ i g. F .first-later i k g l),
+    )

@@ -1,3 +1,4 @@
 pub mod Shape
+pub mod Repeats
 pub mod Dimensions
 pub mod Answers

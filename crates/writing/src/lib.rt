@@ -142,6 +142,11 @@ pub fn refused(out: &mut [u8], at: usize, refusal: Refusal) -> usize {
             let next = labelled(out, next, b" at ", earlier as u64);
             labelled(out, next, b" ", later as u64)
         }
+        Refusal::RepeatedLayout(station, earlier, later) => {
+            let next = labelled(out, next, b" at ", station as u64);
+            let next = labelled(out, next, b" ", earlier as u64);
+            labelled(out, next, b" ", later as u64)
+        }
         _ => next,
     }
 }

@@ -1,11 +1,12 @@
 -- `route::judge_route` meets its contract. Assumes nothing.
 use borrow.Author.Needs.{needs}
 use borrow.Author.Tests.{not-true, not-false}
-use mathlib.Core.Path.{_≡_, sym, _∙_}
+use mathlib.Core.Path.{_≡_, sym, ap, _∙_}
 use mathlib.Core.Bool.{true}
 use Rattle.shape.specs.Shape.{goodShape}
 use Rattle.route.specs.Route.{goodLimits}
-use Rattle.route.proofs.Judging.{no-shape, no-limits, no-counts, no-layouts, no-sizes, too-short, all-kept}
+use Rattle.route.specs.Loading.{firstRefusal}
+use Rattle.route.proofs.Judging.{no-shape, no-limits, no-counts, no-layouts, after-layouts}
 use Rattle.route.proofs.judge_route.Statement.{statement}
 use Rattle.route.proofs.judge_route.Tie as tie
 
@@ -38,28 +39,19 @@ returns-4 c =
     let e = f .before .before in
     no-layouts _ _ _ _ _ _ (shape (e .before .before)) (limits e) (not-false _ (f .if3 .left)) (not-true _ (c .if4 .taken))
 
+judge-sizes-requires : tie.Need-judge-sizes-requires
+judge-sizes-requires c κs = search needs
+
+first-refusal-requires : tie.Need-first-refusal-requires
+first-refusal-requires c κs = search needs
+
 returns-5 : tie.Need-returns-5
 returns-5 c =
     let g = c .before .before in
     let f = g .before .before in
     let e = f .before .before in
-    no-sizes _ _ _ _ _ _ (shape (e .before .before)) (limits e) (not-false _ (f .if3 .left)) (not-false _ (g .if4 .left)) (not-true _ (c .if5 .taken))
-
-returns-6 : tie.Need-returns-6
-returns-6 c =
-    let k = c .before in
-    let g = k .before .before in
-    let f = g .before .before in
-    let e = f .before .before in
-    too-short _ _ _ _ _ _ (shape (e .before .before)) (limits e) (not-false _ (f .if3 .left)) (not-false _ (g .if4 .left)) (not-false _ (k .if5 .left)) (c .if6 .taken)
-
-returns-7 : tie.Need-returns-7
-returns-7 c =
-    let k = c .before in
-    let g = k .before .before in
-    let f = g .before .before in
-    let e = f .before .before in
-    all-kept _ _ _ _ _ _ (shape (e .before .before)) (limits e) (not-false _ (f .if3 .left)) (not-false _ (g .if4 .left)) (not-false _ (k .if5 .left)) (c .if6 .left)
+    after-layouts _ _ _ _ _ _ (shape (e .before .before)) (limits e) (not-false _ (f .if3 .left)) (not-false _ (g .if4 .left)) _
+    (c .first-refusal .ensures ∙ ap (firstRefusal (e .before .before .before .before .args .loaded .repeat)) (c .before .judge-sizes .ensures))
 
 pub judge-route-spec : {M : Type 1} → statement M
 judge-route-spec =
@@ -71,6 +63,6 @@ judge-route-spec =
     returns-2
     returns-3
     returns-4
-    returns-5
-    returns-6
-    returns-7)
+    judge-sizes-requires
+    first-refusal-requires
+    returns-5)

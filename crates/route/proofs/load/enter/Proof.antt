@@ -5,7 +5,7 @@ use mathlib.Core.Bool.{Bool, _&&_}
 use native.Mathlib.Omega.{arith}
 use lib.ListN.{length}
 use Rattle.radix.proofs.Tests.{and-false}
-use Rattle.route.specs.Loading.{Fit}
+use Rattle.route.specs.Loading.{Fit, firstRefusal}
 use Rattle.route.proofs.Tables.{and-keep}
 use Rattle.route.proofs.Entering.{fit-of, entered}
 use Rattle.route.proofs.load.enter.Statement.{statement}
@@ -20,8 +20,14 @@ counts-long s = search needs
 sizes-long : (s : tie.Start) → length (s .args .loaded .sizes) ≡ 512
 sizes-long s = search needs
 
+station-repeat-requires : tie.Need-station-repeat-requires
+station-repeat-requires c κs = fit c
+
+first-refusal-requires : tie.Need-first-refusal-requires
+first-refusal-requires c κs = search needs
+
 with-moves-requires : tie.Need-with-moves-requires
-with-moves-requires c κs = (c .pre .0 .1, (c .pre .1 .0 .last, fit c))
+with-moves-requires c κs = let s = c .before .before in (s .pre .0 .1, (s .pre .1 .0 .last, fit s))
 
 mul-counts : tie.Need-mul-counts
 mul-counts c = search needs
@@ -37,21 +43,23 @@ slice-aggregate-enter-sizes c = search needs
 
 enter-sizes-requires : tie.Need-enter-sizes-requires
 enter-sizes-requires c κs =
-    let s = c .before .before .before .before in
+    let s = c .before .before .before .before .before .before in
     ((s .pre .0 .0, omega (arith, sizes-long s, s .pre .0 .1)), fit s)
 
 returns : tie.Need-returns
 returns c =
     let z = c .before .before in
     let w = z .before .before .before .before in
-    let s = w .before in
-    entered _ _ _ _ _ _ _
+    let f = w .before in
+    let s = f .before .before in
+    entered _ _ _ _ _ _ _ _
     (record {
       few = s .pre .0 .1;
       room = omega (arith, counts-long s, s .pre .0 .1);
       sound = s .pre .1 .0;
       count = s .pre .1 .1 .0;
       layouts = s .pre .1 .1 .1;
+      repeat-is = f .first-refusal .ensures ∙ ap (firstRefusal (s .args .loaded .repeat)) (f .before .station-repeat .ensures);
       kept-is = sym (ap (λ (b : Bool). s .args .loaded .«sizes_kept» && b) (sym (z .enter-sizes .ensures .0) ∙ c .if1 .taken) ∙ and-keep _);
       sizes-in = z .enter-sizes .ensures .1;
       moves-in = w .with-moves .ensures;
@@ -61,14 +69,16 @@ returns-2 : tie.Need-returns-2
 returns-2 c =
     let z = c .before .before in
     let w = z .before .before .before .before in
-    let s = w .before in
-    entered _ _ _ _ _ _ _
+    let f = w .before in
+    let s = f .before .before in
+    entered _ _ _ _ _ _ _ _
     (record {
       few = s .pre .0 .1;
       room = omega (arith, counts-long s, s .pre .0 .1);
       sound = s .pre .1 .0;
       count = s .pre .1 .1 .0;
       layouts = s .pre .1 .1 .1;
+      repeat-is = f .first-refusal .ensures ∙ ap (firstRefusal (s .args .loaded .repeat)) (f .before .station-repeat .ensures);
       kept-is = sym (and-false (s .args .loaded .«sizes_kept») (sym (z .enter-sizes .ensures .0) ∙ c .if1 .left));
       sizes-in = z .enter-sizes .ensures .1;
       moves-in = w .with-moves .ensures;
@@ -78,6 +88,8 @@ pub enter-spec : {M : Type 1} → statement M
 enter-spec =
     tie.close
     (tie.spec
+    station-repeat-requires
+    first-refusal-requires
     with-moves-requires
     mul-counts
     array-write-counts

@@ -1,6 +1,7 @@
 -- `shape::dimensions::first_repeat` meets its contract. No place before the later one repeats, and no place before the earlier one has the later one's entry. Assumes nothing.
 use borrow.Author.Needs.{needs}
 use borrow.Author.Count.{below-none, below-more}
+use borrow.Author.Tests.{eq-eqb, ne-eqb}
 use mathlib.Core.Path.{_≡_, sym, subst}
 use mathlib.Core.Logic.{⊎-elim}
 use mathlib.Core.Bool.{false}
@@ -11,13 +12,14 @@ use denote.Ref.{now}
 use lib.ListN.{length, getD}
 use Rattle.refusal.specs.Number.{refusal}
 use Rattle.refusal.specs.declared.Refusal.the-variants.{Repeat}
-use Rattle.shape.specs.Dimensions.{repeats, firstRepeat}
-use Rattle.shape.proofs.Repeats.{no-repeat, repeat-found, repeat-none}
+use Rattle.shape.specs.Dimensions.{sameDimension, repeats, firstRepeat}
+use Rattle.shape.proofs.FirstRepeats.{no-repeat, first-repeat}
+use Rattle.shape.proofs.Repeats.{repeat-found, repeat-none}
 use Rattle.shape.proofs.dimensions.first_repeat.Statement.{statement}
 use Rattle.shape.proofs.dimensions.first_repeat.Tie as tie
 
 abbrev Inv-loop : tie.InvT-loop
-Inv-loop list earlier₀ later earlier = (earlier ≤ later) × ((i : ℕ) → i < earlier → getD list i 0 ≡ getD list later 0 → ⊥)
+Inv-loop list earlier₀ later earlier = (earlier ≤ later) × ((i : ℕ) → i < earlier → sameDimension list i later ≡ false)
 
 abbrev μ-loop : tie.MeasureT-loop
 μ-loop list earlier₀ later earlier = later - earlier
@@ -53,7 +55,7 @@ loop-less : tie.Need-loop-less Inv-loop μ-loop Inv-search μ-search
 loop-less c = search needs
 
 loop-again : tie.Need-loop-again Inv-loop μ-loop Inv-search μ-search
-loop-again c = (search needs, below-more _ _ (c .before .before .before .before .loop .inv .1) (c .if1 .left))
+loop-again c = (search needs, below-more _ _ (c .before .before .before .before .loop .inv .1) (ne-eqb _ _ (c .if1 .left)))
 
 add-later : tie.Need-add-later Inv-loop μ-loop Inv-search μ-search
 add-later c = search needs
@@ -64,7 +66,7 @@ search-less c = search needs
 search-again : tie.Need-search-again Inv-loop μ-loop Inv-search μ-search
 search-again c =
     let l = c .before .before .before in
-    (search needs, below-more _ _ (l .search .inv .1) (no-repeat (now (l .before .args .list)) (l .search .later) (c .before .before .search-test .taken) (λ i h. c .before .loop .inv .1 i (omega arith))))
+    (search needs, below-more _ _ (l .search .inv .1) (no-repeat (sameDimension (now (l .before .args .list))) (l .search .later) (λ i h. c .before .loop .inv .1 i (omega arith))))
 
 returns : tie.Need-returns Inv-loop μ-loop Inv-search μ-search
 returns c =
@@ -73,7 +75,7 @@ returns c =
     ⊎-elim
     (λ w. absurd (omega (arith, w .0 .left, c .if2 .taken)))
     (λ w. subst (λ (e : ℕ). refusal {A = ℕ} [] (Repeat e (s .search .later)) ≡ firstRepeat xs) (sym (w .6))
-    (repeat-found xs (w .1 .earlier) (s .search .later) (w .2 .taken) (w .0 .taken) (w .5 .taken) (w .1 .inv .1) (s .search .inv .1)))
+    (repeat-found xs (first-repeat (sameDimension xs) (length xs) (w .1 .earlier) (s .search .later) (w .2 .taken) (w .0 .taken) (eq-eqb _ _ (w .5 .taken)) (w .1 .inv .1) (s .search .inv .1))))
     (c .before .search-test .came)
 
 returns-2 : tie.Need-returns-2 Inv-loop μ-loop Inv-search μ-search

@@ -1,0 +1,87 @@
+-- The answer to a list that holds a layout twice: given where it is due, and only there. Assumes nothing.
+use mathlib.Core.Path.{_≡_, refl, sym, ap, _∙_, subst}
+use mathlib.Core.Bool.{Bool, true, false, _&&_}
+use mathlib.Core.List.{List, [], _∷_, head-eq-of-cons-eq, tail-eq-of-cons-eq}
+use Prim.Native.Nat.{ℕ}
+use native.Mathlib.Omega.{arith}
+use lib.Dec.{leb}
+use lib.ListN.{length}
+use Rattle.refusal.specs.Number.{placesOf, refusal, answered}
+use Rattle.refusal.specs.Judge.{unless, judge}
+use Rattle.refusal.specs.declared.Refusal.{Refusal}
+use Rattle.refusal.specs.declared.Refusal.the-variants.{ShapeLimits, Attribute, RepeatedLayout, LayoutRule, PaddedSize, ShortBuffer, NoPlan}
+use Rattle.refusal.specs.declared.Verdict.{Verdict}
+use Rattle.refusal.specs.declared.Verdict.the-variants.{Done, Refused}
+use Rattle.shape.specs.Shape.{goodShape}
+use Rattle.shape.specs.declared.Shape.{Shape}
+use Rattle.shape.specs.Repeats.{earlierIn, laterIn}
+use Rattle.plan.specs.Value.{hasPlan}
+use Rattle.route.specs.Stations.{stationAt, countsKept, layoutsKept, sizesKept, netOf}
+use Rattle.route.specs.LayoutRepeats.{sameAt, repeatStation, repeatRule, FirstLayoutRepeat}
+use Rattle.route.specs.Route.{goodLimits, recordsRead, routeRules, routeZeros, routeValues, routeOf}
+use Rattle.route.specs.Loading.{firstRefusal, sizeRules}
+use Rattle.route.specs.declared.Station.{Station}
+use Rattle.route.proofs.LayoutRepeats.{rule-named, named-first}
+use Rattle.route.proofs.Judging.{rule-first}
+use Rattle.route.proofs.Answering.{answer-refused}
+
+module _ (s : Shape) (ys : List Station) (number cells moves : ℕ) where
+  -- as many records as are read
+  abbrev n : ℕ
+  n = recordsRead ys number
+
+  pub answer-repeat :
+      goodShape s ≡ true →
+      goodLimits number cells moves ≡ true →
+      countsKept ys n ≡ true →
+      layoutsKept s ys n ≡ true →
+      {i e l : ℕ} →
+      FirstLayoutRepeat ys n i e l →
+      routeOf s ys number cells moves ≡ refusal routeZeros (RepeatedLayout i e l)
+  answer-repeat g m c k {i} {e} {l} F = sym (answer-refused s ys number cells moves (RepeatedLayout i e l) judged)
+    where
+      rest : judge (repeatRule ys n ∷ sizeRules (sizesKept s ys n) (length ys) number) ≡ Refused (RepeatedLayout i e l)
+      rest =
+          sym (rule-first (repeatRule ys n) (sizeRules (sizesKept s ys n) (length ys) number))
+          ∙ ap (λ (v : Verdict). firstRefusal v (judge (sizeRules (sizesKept s ys n) (length ys) number))) (rule-named ys n F)
+
+      judged : judge (routeRules s ys number cells moves) ≡ Refused (RepeatedLayout i e l)
+      judged = rw (g, m, c, k) rest
+
+  module _ (i e l : ℕ) where
+    -- an answer that names these three
+    abbrev Names : Verdict → Type 0
+    Names v = answered routeZeros v (routeValues s ys number cells moves) .places ≡ i ∷ e ∷ l ∷ []
+
+    none-named : {A : Type 0} → _≡_ {A = List ℕ} [] (i ∷ e ∷ l ∷ []) → A
+    none-named q = absurd (let z : _≡_ {A = ℕ} 0 3 = ap length q in omega arith)
+
+    -- a rule without places is kept
+    passed : (b : Bool) (r : Refusal) (v : Verdict) → placesOf r ≡ [] → Names (unless b r v) → Names v
+    passed true r v p q = q
+    passed false r v p q = none-named (sym p ∙ q)
+
+    pub repeat-of : routeOf s ys number cells moves .places ≡ i ∷ e ∷ l ∷ [] → FirstLayoutRepeat ys n i e l
+    unfolding routeOf
+    repeat-of q =
+        go (repeatRule ys n .kept) refl
+        (passed (layoutsKept s ys n) LayoutRule _ refl
+        (passed (goodLimits number cells moves && countsKept ys n) Attribute _ refl (passed (goodShape s) ShapeLimits _ refl q)))
+      where
+        x : Station
+        x = stationAt ys (repeatStation ys n)
+
+        after : Verdict
+        after = unless (sizesKept s ys n) PaddedSize (unless (leb number (length ys)) ShortBuffer (unless (hasPlan (netOf s ys number cells) moves) NoPlan Done))
+
+        go : (b : Bool) → repeatRule ys n .kept ≡ b → Names (unless b (repeatRule ys n .otherwise) after) → FirstLayoutRepeat ys n i e l
+        go true k p =
+            none-named
+            (passed (hasPlan (netOf s ys number cells) moves) NoPlan Done refl
+            (passed (leb number (length ys)) ShortBuffer _ refl (passed (sizesKept s ys n) PaddedSize _ refl p)))
+        go false k p =
+            let t = tail-eq-of-cons-eq p in
+            subst (λ (j : ℕ). FirstLayoutRepeat ys n j e l) (head-eq-of-cons-eq p)
+            (subst (λ (j : ℕ). FirstLayoutRepeat ys n (repeatStation ys n) j l) (head-eq-of-cons-eq t)
+            (subst (λ (j : ℕ). FirstLayoutRepeat ys n (repeatStation ys n) (earlierIn (sameAt x) (x .count)) j) (head-eq-of-cons-eq (tail-eq-of-cons-eq t))
+            (named-first ys n k)))
