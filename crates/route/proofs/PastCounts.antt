@@ -9,7 +9,7 @@ use lib.Dec.{leb, eqb, ltb}
 use lib.ListN.{length, drop}
 use Rattle.radix.specs.Radix.{maxCount, every, isWithin}
 use Rattle.refusal.specs.Number.{done}
-use Rattle.refusal.specs.Judge.{Rule, rule, unless, judge}
+use Rattle.refusal.specs.Judge.{Rule, unless, judge}
 use Rattle.refusal.specs.declared.Refusal.the-variants.{ShapeLimits, Attribute, LayoutRule}
 use Rattle.refusal.specs.declared.Verdict.{Verdict}
 use Rattle.refusal.specs.declared.Verdict.the-variants.{Done, Refused}

@@ -59,8 +59,8 @@ pub rule-refused :
     routeOf s ys number cells moves ≡ refusal routeZeros r
 rule-refused s ys number cells moves r e = sym (answer-refused s ys number cells moves r e)
 
--- A list that holds a layout twice is refused with 3, naming the first such station and the first repeat of its list, wherever 1, 2 and
--- every other cause of 3 do not apply: before 4, 9 and 10.
+-- A list that holds a layout twice is refused with 3, naming the first such station and the first repeat of its list,
+-- wherever 1, 2 and every other cause of 3 do not apply: before 4, 9 and 10.
 pub repeat-refused :
     (s : Shape) (ys : List Station) (number cells moves : ℕ) →
     goodShape s ≡ true →
@@ -72,22 +72,27 @@ pub repeat-refused :
     routeOf s ys number cells moves ≡ refusal routeZeros (RepeatedLayout i e l)
 repeat-refused s ys number cells moves g m c k i e l F = answer-repeat s ys number cells moves g m c k F
 
--- And only then: three places that an answer names are the first station of those read whose list holds a layout twice, and its first repeat.
+-- And only then: where an answer names three places, none of these applies, and the places are the first station, of
+-- those read, whose list holds a layout twice, and the first repeat of that list.
 pub refused-repeat :
     (s : Shape) (ys : List Station) (number cells moves i e l : ℕ) →
     routeOf s ys number cells moves .places ≡ i ∷ e ∷ l ∷ [] →
-    FirstLayoutRepeat ys (recordsRead ys number) i e l
+    (goodShape s ≡ true)
+    × (goodLimits number cells moves ≡ true)
+    × (countsKept ys (recordsRead ys number) ≡ true)
+    × (layoutsKept s ys (recordsRead ys number) ≡ true)
+    × FirstLayoutRepeat ys (recordsRead ys number) i e l
 refused-repeat s ys number cells moves i e l q = repeat-of s ys number cells moves i e l q
 
 -- There is such a first repeat as soon as one list holds two layouts equal as written.
-pub repeat-found :
+pub first-repeat-exists :
     (ys : List Station) (n i a b : ℕ) →
     i < n →
     a < b →
     b < stationAt ys i .count →
     Written (layoutAt (stationAt ys i) a) (layoutAt (stationAt ys i) b) →
     (j : ℕ) × (e : ℕ) × (l : ℕ) × FirstLayoutRepeat ys n j e l
-repeat-found ys n i a b h l g w = (_, _, _, named-first ys n (twice-broken ys n i a b h l g (same-written _ _ w)))
+first-repeat-exists ys n i a b h l g w = (_, _, _, named-first ys n (twice-broken ys n i a b h l g (same-written _ _ w)))
 
 module _ (s : Shape) (ys : List Station) (number cells moves : ℕ) (clean : breaksNoRule s ys number cells moves) where
   abbrev net : Net
@@ -112,7 +117,9 @@ module _ (s : Shape) (ys : List Station) (number cells moves : ℕ) (clean : bre
       (p q : List ℕ) →
       IsPlan ys number p →
       IsPlan ys number q →
-      ((i : ℕ) → i < number → Written (layoutAt (stationAt ys i) (getD p i 0)) (layoutAt (stationAt ys i) (getD q i 0))) →
+      ((i : ℕ) →
+      i < number →
+      Written (layoutAt (stationAt ys i) (getD p i 0)) (layoutAt (stationAt ys i) (getD q i 0))) →
       p ≡ q
   same-layouts-same-plan =
       same-plan ys number (kept-different ys number (unbroken s ys number cells moves clean .lists))

@@ -8,7 +8,6 @@ use mathlib.Core.List.{List, []}
 use lib.Dec.{eqb}
 use lib.ListN.{length, getD}
 use borrow.Author.Tests.{eq-eqb, ne-eqb, eqb-true, eqb-false, le-leb, lt-leb}
-use Rattle.radix.specs.Radix.{first}
 use Rattle.radix.proofs.Lists.{le-or-lt}
 use Rattle.radix.proofs.Tests.{first-is, first-none, first-true, first-before}
 use Rattle.refusal.specs.Number.{Answer, done, refusal, numberOf}

@@ -26,7 +26,7 @@ abbrev same : List Layout → ℕ → ℕ → Bool
 same layouts a b = sameLayout (getD layouts a blankLayout) (getD layouts b blankLayout)
 
 abbrev Inv-loop : tie.InvT-loop
-Inv-loop rank i count layouts earlier₀ later earlier = (earlier ≤ later) × ((a : ℕ) → a < earlier → same layouts a later ≡ false)
+Inv-loop rank i count layouts earlier₀ later earlier = (a : ℕ) → a < earlier → same layouts a later ≡ false
 
 abbrev μ-loop : tie.MeasureT-loop
 μ-loop rank i count layouts earlier₀ later earlier = later - earlier
@@ -41,7 +41,7 @@ search-holds : tie.Need-search-holds Inv-loop μ-loop Inv-search μ-search
 search-holds c = (search needs, below-none _)
 
 loop-holds : tie.Need-loop-holds Inv-loop μ-loop Inv-search μ-search
-loop-holds c = (search needs, below-none _)
+loop-holds c = below-none _
 
 mul-same-layout : tie.Need-mul-same-layout Inv-loop μ-loop Inv-search μ-search
 mul-same-layout c = search needs
@@ -69,10 +69,7 @@ loop-less : tie.Need-loop-less Inv-loop μ-loop Inv-search μ-search
 loop-less c = search needs
 
 loop-again : tie.Need-loop-again Inv-loop μ-loop Inv-search μ-search
-loop-again c = (
-  search needs,
-  below-more _ _ (c .before .before .before .before .before .loop .inv .1) (sym (c .before .same-layout .ensures) ∙ c .if1 .left),
-)
+loop-again c = below-more _ _ (c .before .before .before .before .before .loop .inv) (sym (c .before .same-layout .ensures) ∙ c .if1 .left)
 
 add-later : tie.Need-add-later Inv-loop μ-loop Inv-search μ-search
 add-later c = search needs
@@ -84,7 +81,7 @@ search-again : tie.Need-search-again Inv-loop μ-loop Inv-search μ-search
 search-again c =
     let l = c .before .before .before in (
       search needs,
-      below-more _ _ (l .search .inv .1) (no-repeat (sameAt (l .before .before .args .station)) (l .search .later) (λ a h. c .before .loop .inv .1 a (omega arith))),
+      below-more _ _ (l .search .inv .1) (no-repeat (sameAt (l .before .before .args .station)) (l .search .later) (λ a h. c .before .loop .inv a (omega arith))),
     )
 
 returns : tie.Need-returns Inv-loop μ-loop Inv-search μ-search
@@ -95,7 +92,7 @@ returns c =
     ⊎-elim
     (λ w. absurd (omega (arith, w .0 .left, c .if2 .taken)))
     (λ w. subst (λ (e : ℕ). Refused (RepeatedLayout i e (s .search .later)) ≡ stationRepeat x i) (sym (w .7))
-    (station-found x i (first-repeat (sameAt x) (x .count) (w .1 .earlier) (s .search .later) (w .2 .taken) (w .0 .taken) (sym (w .5 .ensures) ∙ w .6 .taken) (w .1 .inv .1) (s .search .inv .1))))
+    (station-found x i (first-repeat (sameAt x) (x .count) (w .1 .earlier) (s .search .later) (w .2 .taken) (w .0 .taken) (sym (w .5 .ensures) ∙ w .6 .taken) (w .1 .inv) (s .search .inv .1))))
     (c .before .search-test .came)
 
 returns-2 : tie.Need-returns-2 Inv-loop μ-loop Inv-search μ-search

@@ -9,7 +9,7 @@ use mathlib.Core.List.{[]}
 use Prim.Native.Nat.{ℕ, _≤_, _<_, _-_}
 use native.Mathlib.Omega.{arith}
 use denote.Ref.{now}
-use lib.ListN.{length, getD}
+use lib.ListN.{length}
 use Rattle.refusal.specs.Number.{refusal}
 use Rattle.refusal.specs.declared.Refusal.the-variants.{Repeat}
 use Rattle.shape.specs.Dimensions.{sameDimension, repeats, firstRepeat}
