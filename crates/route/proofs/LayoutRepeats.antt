@@ -6,7 +6,7 @@ use mathlib.Core.List.{List, [], _∷_}
 use Prim.Native.Nat.{ℕ, _+_, _<_, _≤_}
 use native.Mathlib.Omega.{arith}
 use borrow.Author.Count.{below-more}
-use borrow.Author.Tests.{leb-true, leb-false, le-leb, lt-leb}
+use borrow.Author.Tests.{not-true, not-false, leb-true, leb-false, le-leb, lt-leb}
 use Rattle.radix.specs.Radix.{first}
 use Rattle.radix.proofs.Lists.{le-or-lt}
 use Rattle.radix.proofs.Tests.{first-is, first-none, first-true, first-before}
@@ -30,45 +30,32 @@ station-found x i F = rw (found-not-free _ _ F) (ap Refused (sym (repeat-named x
 pub station-free : (x : Station) (i : ℕ) → ((k : ℕ) → k < x .count → isRepeat (sameAt x) k ≡ false) → Done ≡ stationRepeat x i
 station-free x i h = rw (le-leb (x .count) (laterIn (sameAt x) (x .count)) (omega (arith, none-later (sameAt x) (x .count) h)))
 
-not-false : (b : Bool) → not b ≡ true → b ≡ false
-not-false true e = sym e
-not-false false e = refl
-
-not-true : (b : Bool) → not b ≡ false → b ≡ true
-not-true true e = refl
-not-true false e = sym e
-
 module _ (ys : List Station) where
   -- the test of a station: its list holds a layout twice
   abbrev twice : ℕ → Bool
   twice i = not (allDifferent (stationAt ys i))
 
   -- one station more
-  pub repeat-next :
-      (n : ℕ) →
+  abbrev Next : ℕ → Type 0
+  Next n =
       judge (repeatRule ys (n + 1) ∷ []) ≡ firstRefusal (judge (repeatRule ys n ∷ [])) (stationRepeat (stationAt ys n) n)
+
+  pub repeat-next : (n : ℕ) → Next n
   unfolding repeatStation
   repeat-next n = ⊎-elim none-before some-before (le-or-lt n (first twice n))
     where
-      some-before :
-          first twice n < n →
-          judge (repeatRule ys (n + 1) ∷ []) ≡ firstRefusal (judge (repeatRule ys n ∷ [])) (stationRepeat (stationAt ys n) n)
+      some-before : first twice n < n → Next n
       some-before h =
           let e = first-is twice (n + 1) (first twice n) (omega arith) (first-true twice n h) (first-before twice n) in
           rw (e, lt-leb (n + 1) (first twice n) (omega arith), lt-leb n (first twice n) h)
 
-      none-before :
-          n ≤ first twice n →
-          judge (repeatRule ys (n + 1) ∷ []) ≡ firstRefusal (judge (repeatRule ys n ∷ [])) (stationRepeat (stationAt ys n) n)
+      none-before : n ≤ first twice n → Next n
       none-before h = go (allDifferent (stationAt ys n)) refl
         where
           before : (j : ℕ) → j < n → twice j ≡ false
           before j l = first-before twice n j (omega arith)
 
-          go :
-              (b : Bool) →
-              allDifferent (stationAt ys n) ≡ b →
-              judge (repeatRule ys (n + 1) ∷ []) ≡ firstRefusal (judge (repeatRule ys n ∷ [])) (stationRepeat (stationAt ys n) n)
+          go : (b : Bool) → allDifferent (stationAt ys n) ≡ b → Next n
           go true q =
               let e = first-none twice (n + 1) (below-more _ n before (ap not q)) in
               rw (e, first-none twice n before, le-leb (n + 1) (n + 1) (omega arith), le-leb n n (omega arith), q)
@@ -100,15 +87,15 @@ module _ (ys : List Station) where
         let h = leb-false n (first twice n) b in
         record {
           read = h;
-          here = first-found (sameAt found) (found .count) (leb-false _ _ (not-false _ (first-true twice n h)));
-          before = λ j l. free-different _ _ (not-true _ (first-before twice n j l));
+          here = first-found (sameAt found) (found .count) (leb-false _ _ (not-true _ (first-true twice n h)));
+          before = λ j l. free-different _ _ (not-false _ (first-before twice n j l));
         }
 
     -- where it is kept, no list holds a layout twice, and only there
     pub kept-different : repeatRule ys n .kept ≡ true → (i : ℕ) → i < n → Different (sameAt (stationAt ys i)) (stationAt ys i .count)
     unfolding repeatStation
     kept-different k i h =
-        free-different _ _ (not-true _ (first-before twice n i (omega (arith, leb-true n (first twice n) k))))
+        free-different _ _ (not-false _ (first-before twice n i (omega (arith, leb-true n (first twice n) k))))
 
     pub different-kept : ((i : ℕ) → i < n → Different (sameAt (stationAt ys i)) (stationAt ys i .count)) → repeatRule ys n .kept ≡ true
     unfolding repeatStation
@@ -120,7 +107,7 @@ module _ (ys : List Station) where
     twice-broken i a b h l g e = go (repeatRule ys n .kept) refl
       where
         go : (t : Bool) → repeatRule ys n .kept ≡ t → t ≡ false
-        go true k = sym (e) ∙ kept-different k i h a b l g
+        go true k = sym e ∙ kept-different k i h a b l g
         go false k = refl
 
 -- lists of stations whose layouts compare alike below their counts
