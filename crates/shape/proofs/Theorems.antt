@@ -6,7 +6,7 @@ use mathlib.Core.List.{List, []}
 use Prim.Native.Nat.{ℕ, _<_}
 use lib.Dec.{ltb}
 use lib.ListN.{length, getD}
-use borrow.Author.Tests.{lt-leb, lt-ltb, eqb-true}
+use borrow.Author.Tests.{lt-leb, lt-ltb, eq-eqb, eqb-true}
 use Rattle.radix.specs.Radix.{rowMajor, digits, In}
 use Rattle.radix.proofs.Radix.{below, digits-rowMajor, rowMajor-digits, digits-in}
 use Rattle.radix.proofs.Tests.{and-right, and-true, every-all}
@@ -15,7 +15,7 @@ use Rattle.refusal.specs.declared.Refusal.the-variants.{Repeat}
 use Rattle.shape.specs.Shape.{sizesOf, countOf}
 use Rattle.shape.specs.Dimensions.{inRange, sameDimension, repeats, laterPlace, earlierPlace, free, firstRepeat, isPermutation, Permutation}
 use Rattle.shape.specs.declared.Shape.{Shape}
-use Rattle.shape.proofs.FirstRepeats.{no-repeat, first-found}
+use Rattle.shape.proofs.FirstRepeats.{no-repeat, first-found, some-repeat}
 use Rattle.shape.proofs.Permutations.{apart-free, free-apart, permutation-of, permutation-is}
 
 -- The number of a point is one of the shape's elements, and the point of that number is the point.
@@ -54,3 +54,7 @@ repeat-first xs h =
       eqb-true (getD xs (earlierPlace xs) 0) (getD xs (laterPlace xs) 0) (F .alike),
       λ k l. no-repeat (sameDimension xs) k (λ i g. F .first-later i k g l),
     )
+
+-- A list in which two places hold the same has such a first repeat.
+pub repeat-exists : (xs : List ℕ) (i j : ℕ) → i < j → j < length xs → getD xs i 0 ≡ getD xs j 0 → laterPlace xs < length xs
+repeat-exists xs i j l h e = some-repeat (sameDimension xs) (length xs) i j l h (eq-eqb (getD xs i 0) (getD xs j 0) e) .inside
