@@ -1,6 +1,7 @@
 // An ordinary dynamic programme for the route: least cost from each place with so many moves left, from the last station back.
 use crate::stations::{Layout, SIZES};
 
+#[derive(Debug, PartialEq)]
 pub struct Route {
     pub places: Vec<usize>,
     pub total: u64,
@@ -20,9 +21,18 @@ fn padded(layout: &Layout) -> u64 {
 
 /// A layout of a station, and its padded size.
 #[derive(Clone, Copy)]
-struct Choice<'a> {
-    layout: &'a Layout,
-    size: u64,
+pub struct Choice<'a> {
+    pub layout: &'a Layout,
+    pub size: u64,
+}
+
+/// The stations with their padded sizes. None is given where one holds a layout twice.
+pub fn choices(stations: &[Vec<Layout>]) -> Option<Vec<Vec<Choice<'_>>>> {
+    if repeat(stations).is_some() {
+        return None;
+    }
+    let choice = |layout| Choice { layout, size: padded(layout) };
+    Some(stations.iter().map(|layouts| layouts.iter().map(choice).collect()).collect())
 }
 
 /// What coming to a layout costs, its own padded size included, and the moves that it takes.
@@ -60,11 +70,7 @@ fn repeat(stations: &[Vec<Layout>]) -> Option<(usize, usize, usize)> {
 
 /// The best plan, first in list order among those of least cost. None is given where a station holds a layout twice.
 pub fn route(stations: &[Vec<Layout>], moves: usize) -> Option<Route> {
-    if repeat(stations).is_some() {
-        return None;
-    }
-    let choice = |layout| Choice { layout, size: padded(layout) };
-    let stations: Vec<Vec<Choice>> = stations.iter().map(|layouts| layouts.iter().map(choice).collect()).collect();
+    let stations = choices(stations)?;
     let n = stations.len();
     // least[i][a][m]: the cost after station i from its place a with m moves left.
     let mut least = vec![vec![vec![Some(0u64); moves + 1]; 8]; n];

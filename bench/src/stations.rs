@@ -27,12 +27,25 @@ fn station(state: u64) -> Vec<Layout> {
     (0..8).map(|a| layout(first + a * odd)).collect()
 }
 
+/// The states of the generator that the stations are made of.
+fn states(seed: u64) -> impl Iterator<Item = u64> {
+    std::iter::successors(Some(next(seed)), |&state| Some(next(state))).take(64)
+}
+
 pub fn stations(seed: u64) -> Vec<Vec<Layout>> {
-    let mut state = seed;
-    (0..64)
-        .map(|_| {
-            state = next(state);
-            station(state)
-        })
-        .collect()
+    states(seed).map(station).collect()
+}
+
+/// The forms of the trees: a chain, a star, and one of random parents.
+pub const FORMS: [&str; 3] = ["chain", "star", "random"];
+
+/// The parent of each station of that form; the first one has none, and 0 stands there.
+pub fn parents(form: usize, seed: u64) -> Vec<usize> {
+    let parent = |(i, state): (usize, u64)| match form {
+        _ if i == 0 => 0,
+        0 => i - 1,
+        1 => 0,
+        _ => (state / 1048576) as usize % i,
+    };
+    states(seed).enumerate().map(parent).collect()
 }

@@ -18,6 +18,7 @@ use crate::request::{read_request, Question, Request};
 use crate::route::{best_plan, Plan};
 use crate::shape::{element_count, element_number, point_of_element, Shape};
 use crate::share::{card, fit, Fit};
+use crate::tree::best_tree_plan;
 
 /// The longest line that is read, in bytes without its line end.
 pub const MAX_LINE: usize = 65_535;
@@ -77,6 +78,7 @@ fn answer_request(request: &Request) -> String {
         }
         Request::Retile(request) => retile_answer(request),
         Request::Route(route) => best_plan(route).map(|plan| plan_text(&plan)),
+        Request::Tree(tree) => best_tree_plan(tree).map(|plan| plan_text(&plan)),
         Request::Eval { map, point } => {
             evaluate(map, point).map(|values| format!("value {}", tuple(&values)))
         }

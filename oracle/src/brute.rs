@@ -7,6 +7,7 @@ use crate::brute_operations::brute_operations;
 use crate::brute_repeats::brute_repeats;
 use crate::brute_retile::brute_retile;
 use crate::brute_routes::brute_routes;
+use crate::brute_trees::brute_trees;
 use crate::buffer::{pack, unpack};
 use crate::layout::{padded_size, Layout};
 use crate::offset::{offset_of_element, offset_of_point, point_at_offset};
@@ -36,6 +37,7 @@ pub fn brute() -> Result<u64, String> {
     brute_layouts(&mut tally)?;
     brute_routes(&mut tally)?;
     brute_repeats(&mut tally)?;
+    brute_trees(&mut tally)?;
     brute_maps(&mut tally)?;
     brute_compose(&mut tally)?;
     brute_operations(&mut tally)?;

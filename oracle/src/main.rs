@@ -10,6 +10,7 @@ mod brute_operations;
 mod brute_repeats;
 mod brute_retile;
 mod brute_routes;
+mod brute_trees;
 mod buffer;
 mod compose;
 mod damage;
@@ -55,12 +56,16 @@ mod random_route_pools;
 mod random_route_repeats;
 mod random_routes;
 mod random_tight_maps;
+mod random_tree_forms;
+mod random_tree_savings;
+mod random_trees;
 mod reader;
 mod reader_maps;
 mod refusal;
 mod request;
 mod request_operations;
 mod request_retile;
+mod request_tree;
 mod retile;
 mod route;
 mod route_by_trial;
@@ -69,6 +74,7 @@ mod share;
 mod small_cases;
 mod small_operations;
 mod small_retilings;
+mod station_rules;
 #[cfg(test)]
 mod tests;
 #[cfg(test)]
@@ -84,12 +90,20 @@ mod tests_random_retile;
 #[cfg(test)]
 mod tests_random_routes;
 #[cfg(test)]
+mod tests_random_trees;
+#[cfg(test)]
 mod tests_retile;
 #[cfg(test)]
 mod tests_route_repeats;
 #[cfg(test)]
 mod tests_routes;
+#[cfg(test)]
+mod tests_trees;
+#[cfg(test)]
+mod tests_trees_by_trial;
 mod token;
+mod tree;
+mod tree_by_trial;
 mod vectors;
 mod vectors_buffers;
 mod vectors_composition_counts;
@@ -100,6 +114,7 @@ mod vectors_grids;
 mod vectors_layouts;
 mod vectors_long_lines;
 mod vectors_long_routes;
+mod vectors_long_trees;
 mod vectors_map_counts;
 mod vectors_map_rules;
 mod vectors_map_unreadable;
@@ -112,18 +127,23 @@ mod vectors_places;
 mod vectors_retile;
 mod vectors_route_repeats;
 mod vectors_routes;
+mod vectors_row_trees;
 mod vectors_shapes;
 mod vectors_shares;
 mod vectors_tokens;
+mod vectors_tree_parents;
+mod vectors_tree_rules;
+mod vectors_trees;
 mod vectors_unreadable;
+mod wrong_tree_rules;
 
 use std::io::{self, Read, Write};
 use std::process::ExitCode;
 
 use random_kinds::{random_lines, Kind};
 
-const USAGE: &str =
-    "usage: oracle answer | random SEED N [layout | route | map | compose | operation | division | retile] | vectors [DIR] | brute";
+const USAGE: &str = "usage: oracle answer | random SEED N [KIND] | vectors [DIR] | brute
+KIND: layout, route, tree, map, compose, operation, division or retile";
 
 /// Where `vectors` writes when no directory is given.
 const VECTORS_DIRECTORY: &str = "crates/zungatewi";

@@ -1,4 +1,4 @@
-//! Random request lines by kind: layouts, routes, maps, compositions, operations, divisions, re-tilings, or a mix of them.
+//! Random request lines by kind: layouts, routes, trees, maps, compositions, operations, divisions, re-tilings, or a mix.
 
 use crate::random::Random;
 use crate::random_compose_lines::random_compose_line;
@@ -8,11 +8,13 @@ use crate::random_operation_lines::random_operation_line;
 use crate::random_requests::random_line;
 use crate::random_retile::random_retile_line;
 use crate::random_routes::random_route_line;
+use crate::random_trees::random_tree_line;
 
 #[derive(Clone, Copy, Debug, PartialEq, Eq)]
 pub enum Kind {
     Layout,
     Route,
+    Tree,
     Map,
     Compose,
     Operation,
@@ -21,11 +23,12 @@ pub enum Kind {
 }
 
 /// The kinds of a mix; each stands as often as its share is.
-const MIX: [Kind; 10] = [
+const MIX: [Kind; 11] = [
     Kind::Layout,
     Kind::Layout,
     Kind::Layout,
     Kind::Route,
+    Kind::Tree,
     Kind::Map,
     Kind::Map,
     Kind::Compose,
@@ -39,6 +42,7 @@ impl Kind {
         match name {
             "layout" => Some(Kind::Layout),
             "route" => Some(Kind::Route),
+            "tree" => Some(Kind::Tree),
             "map" => Some(Kind::Map),
             "compose" => Some(Kind::Compose),
             "operation" => Some(Kind::Operation),
@@ -58,6 +62,7 @@ pub fn random_lines(seed: u64, count: u64, kind: Option<Kind>) -> Vec<u8> {
         lines.extend(match kind {
             Kind::Layout => random_line(&mut random),
             Kind::Route => random_route_line(&mut random),
+            Kind::Tree => random_tree_line(&mut random),
             Kind::Map => random_map_line(&mut random),
             Kind::Compose => random_compose_line(&mut random),
             Kind::Operation => random_operation_line(&mut random),

@@ -7,6 +7,17 @@ use crate::route::best_plan;
 
 /// Sets limits around what the stations need.
 pub fn limit(random: &mut Random, draft: &mut RouteDraft) {
+    limit_around(random, draft, needed_moves, best_moves);
+}
+
+/// Sets limits around the sizes of the stations, the fewest moves with which some plan is admitted and those of the
+/// best plan; both counts of moves are asked for with the cell limit set.
+pub fn limit_around(
+    random: &mut Random,
+    draft: &mut RouteDraft,
+    needed: impl Fn(&RouteDraft) -> i64,
+    best: impl Fn(&RouteDraft) -> i64,
+) {
     let mut sizes: Vec<i64> = Vec::new();
     for layout in draft.stations.iter().flatten() {
         let padded = padded_size(&layout.shape(), &layout.layout());
@@ -25,10 +36,10 @@ pub fn limit(random: &mut Random, draft: &mut RouteDraft) {
     };
     let stations = draft.stations.len() as i64;
     draft.move_limit = match random.below(100) {
-        0..=33 => needed_moves(draft),
-        34..=44 => (needed_moves(draft) - 1).max(0),
-        45..=59 => best_moves(draft),
-        60..=74 => (best_moves(draft) - 1).max(0),
+        0..=33 => needed(draft),
+        34..=44 => (needed(draft) - 1).max(0),
+        45..=59 => best(draft),
+        60..=74 => (best(draft) - 1).max(0),
         75..=79 => 0,
         80..=89 => random.between(0, stations.min(63)),
         _ => random.between(0, 63),

@@ -34,15 +34,22 @@ impl RouteDraft {
     }
 
     pub fn text(&self) -> String {
-        let station_text = |station: &Vec<Draft>| {
-            let layouts: Vec<String> = station.iter().map(layout_text).collect();
-            layouts.join(" ")
-        };
+        let station_text = |station: &Vec<Draft>| layouts_text(station);
         let stations: Vec<String> = self.stations.iter().map(station_text).collect();
-        let sizes = joined(&self.sizes);
-        let (cells, moves) = (self.cell_limit, self.move_limit);
-        format!("route [{sizes}] {cells} {moves} {}", stations.join(" ; "))
+        format!("route {} {}", self.limits_text(), stations.join(" ; "))
     }
+
+    /// SHAPE LIMIT MOVES.
+    pub fn limits_text(&self) -> String {
+        let sizes = joined(&self.sizes);
+        format!("[{sizes}] {} {}", self.cell_limit, self.move_limit)
+    }
+}
+
+/// The layouts of a station.
+pub fn layouts_text(station: &[Draft]) -> String {
+    let layouts: Vec<String> = station.iter().map(layout_text).collect();
+    layouts.join(" ")
 }
 
 /// A route line, seldom damaged, sometimes with other spaces.
@@ -112,7 +119,7 @@ fn random_route(random: &mut Random) -> RouteDraft {
 }
 
 /// Stations whose layouts, different ones, come from one small pool, so that neighbours often agree.
-fn stations(
+pub fn stations(
     random: &mut Random,
     sizes: &[i64],
     most_stations: u64,

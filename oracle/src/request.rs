@@ -8,8 +8,10 @@ use crate::operation::{Operation, Way};
 use crate::reader::{Reader, Unreadable};
 use crate::request_operations::{is_operation, read_operation};
 use crate::request_retile::{read_retile, RetileRequest};
+use crate::request_tree::read_tree;
 use crate::route::Route;
 use crate::shape::Shape;
+use crate::tree::Tree;
 
 /// The longest buffer that a request can lend, and the length lent where none is given.
 pub const MAX_LENGTH: u64 = 4096;
@@ -40,6 +42,7 @@ pub enum Request {
     },
     Retile(RetileRequest),
     Route(Route),
+    Tree(Tree),
     Eval {
         map: Map,
         point: MapPoint,
@@ -112,6 +115,7 @@ pub fn read_request(line: &[u8]) -> Result<Request, Unreadable> {
         },
         b"retile" => Request::Retile(read_retile(&mut reader)?),
         b"route" => Request::Route(route(&mut reader)?),
+        b"tree" => Request::Tree(read_tree(&mut reader)?),
         b"eval" => eval(&mut reader)?,
         b"range" => Request::Range(read_map(&mut reader)?),
         b"fold" => Request::Fold(read_map(&mut reader)?),
@@ -129,9 +133,9 @@ fn route(reader: &mut Reader) -> Result<Route, Unreadable> {
     let shape = reader.shape()?;
     let cell_limit = reader.unsigned()?;
     let move_limit = reader.unsigned()?;
-    let mut stations = vec![station(reader)?];
+    let mut stations = vec![layouts(reader)?];
     while reader.skip(b';') {
-        stations.push(station(reader)?);
+        stations.push(layouts(reader)?);
     }
     Ok(Route {
         shape,
@@ -142,7 +146,7 @@ fn route(reader: &mut Reader) -> Result<Route, Unreadable> {
 }
 
 /// Reads the layouts of a station, at least one.
-fn station(reader: &mut Reader) -> Result<Vec<Layout>, Unreadable> {
+pub fn layouts(reader: &mut Reader) -> Result<Vec<Layout>, Unreadable> {
     let mut layouts = vec![reader.layout()?];
     while reader.is_ahead(b'{') {
         layouts.push(reader.layout()?);

@@ -1,8 +1,9 @@
 //! Routes: the least cost of a plan through stations, by a programme over the stations from the last to the first.
 
-use crate::layout::{judge_layout, padded_size, Layout};
+use crate::layout::Layout;
 use crate::refusal::Refusal;
-use crate::shape::{element_count, Shape, MAX_COUNT};
+use crate::shape::Shape;
+use crate::station_rules::{judge_limits, judged_sizes};
 
 pub const MAX_MOVES: u64 = 63;
 pub const MAX_STATIONS: usize = 64;
@@ -29,6 +30,7 @@ type Costs = Vec<Vec<Option<u64>>>;
 
 /// The plan of least cost, the first in list order among equals (1, 2, 3, 4, 10).
 pub fn best_plan(route: &Route) -> Result<Plan, Refusal> {
+    judge_limits(route)?;
     let padded = judged_sizes(route)?;
     let costs = costs_by_station(route, &padded);
     let mut moves = route.move_limit as usize;
@@ -52,51 +54,6 @@ pub fn best_plan(route: &Route) -> Result<Plan, Refusal> {
         moves -= used;
     }
     Ok(Plan { places, total })
-}
-
-/// The padded size of every layout, once the numbers 1 to 4 are judged.
-pub fn judged_sizes(route: &Route) -> Result<Vec<Vec<u64>>, Refusal> {
-    element_count(&route.shape)?;
-    let count_fits = |count: usize, most: usize| (1..=most).contains(&count);
-    let counts = route.stations.iter().map(Vec::len);
-    if !(1..=MAX_COUNT).contains(&route.cell_limit)
-        || route.move_limit > MAX_MOVES
-        || !count_fits(route.stations.len(), MAX_STATIONS)
-        || !counts
-            .into_iter()
-            .all(|count| count_fits(count, MAX_CHOICES))
-    {
-        return Err(Refusal::Limit);
-    }
-    for layout in route.stations.iter().flatten() {
-        judge_layout(route.shape.sizes.len(), layout)?;
-    }
-    judge_repeats(&route.stations)?;
-    let sizes = |station: &Vec<Layout>| {
-        let sizes = station
-            .iter()
-            .map(|layout| padded_size(&route.shape, layout));
-        sizes.collect()
-    };
-    route.stations.iter().map(sizes).collect()
-}
-
-/// The first station that holds two layouts equal as written (3): its smallest later place, and the earlier one.
-fn judge_repeats(stations: &[Vec<Layout>]) -> Result<(), Refusal> {
-    for (station, layouts) in stations.iter().enumerate() {
-        for later in 0..layouts.len() {
-            for earlier in 0..later {
-                if layouts[earlier] == layouts[later] {
-                    return Err(Refusal::RepeatedLayout {
-                        station,
-                        earlier,
-                        later,
-                    });
-                }
-            }
-        }
-    }
-    Ok(())
 }
 
 /// The least costs from each station on, without the move into it.

@@ -1,7 +1,8 @@
 //! Routes a second time: every plan is tried, in list order.
 
 use crate::refusal::Refusal;
-use crate::route::{judged_sizes, Plan, Route};
+use crate::route::{Plan, Route};
+use crate::station_rules::{judge_limits, judged_sizes};
 
 /// What a move costs, from the padded sizes of the earlier and of the later layout.
 pub type Price = fn(u64, u64) -> u64;
@@ -13,6 +14,7 @@ pub fn plan_by_trial(route: &Route) -> Result<Plan, Refusal> {
 
 /// The same where a move costs something else.
 pub fn plan_at_price(route: &Route, price: Price) -> Result<Plan, Refusal> {
+    judge_limits(route)?;
     let padded = judged_sizes(route)?;
     let mut best: Option<Plan> = None;
     let mut places = vec![0; padded.len()];
@@ -43,7 +45,7 @@ fn moves(route: &Route, places: &[usize], station: usize) -> bool {
 }
 
 /// The next plan in list order; false behind the last one.
-fn next_plan(places: &mut [usize], padded: &[Vec<u64>]) -> bool {
+pub fn next_plan(places: &mut [usize], padded: &[Vec<u64>]) -> bool {
     for station in (0..places.len()).rev() {
         places[station] += 1;
         if places[station] < padded[station].len() {

@@ -24,7 +24,7 @@ fn stored_routes() -> Vec<Route> {
 }
 
 /// Checks that each case is there often enough, and no other.
-fn check_counts(counts: &BTreeMap<&str, u64>, least: &[(&str, u64)]) {
+pub fn check_counts(counts: &BTreeMap<&str, u64>, least: &[(&str, u64)]) {
     for (case, least) in least {
         let count = counts.get(case).copied().unwrap_or(0);
         assert!(count >= *least, "{case}: {counts:?}");

@@ -15,6 +15,7 @@ use crate::vectors_grids::GRIDS;
 use crate::vectors_layouts::LAYOUTS;
 use crate::vectors_long_lines::long_lines;
 use crate::vectors_long_routes::long_routes;
+use crate::vectors_long_trees::long_trees;
 use crate::vectors_map_counts::map_counts;
 use crate::vectors_map_rules::MAP_RULES;
 use crate::vectors_map_unreadable::{long_maps, MAP_TOKENS};
@@ -27,9 +28,13 @@ use crate::vectors_places::PLACES;
 use crate::vectors_retile::{long_retilings, retiling_cuts, RETILINGS};
 use crate::vectors_route_repeats::{repeated_places, repeated_stations, ROUTE_REPEATS};
 use crate::vectors_routes::{ROUTES, UNREADABLE_ROUTES};
+use crate::vectors_row_trees::row_trees;
 use crate::vectors_shapes::SHAPES;
 use crate::vectors_shares::SHARES;
 use crate::vectors_tokens::TOKENS;
+use crate::vectors_tree_parents::TREE_PARENTS;
+use crate::vectors_tree_rules::TREE_RULES;
+use crate::vectors_trees::trees;
 use crate::vectors_unreadable::UNREADABLE;
 
 /// A title, written as a comment, and the request lines under it.
@@ -43,6 +48,7 @@ const TABLES: &[&[Group]] = &[
 pub const SEED: u64 = 20_010_001;
 const RANDOM_REQUESTS: u64 = 3000;
 pub const RANDOM_ROUTES: u64 = 2000;
+pub const RANDOM_TREES: u64 = 1000;
 const RANDOM_MAPS: u64 = 4000;
 const RANDOM_COMPOSITIONS: u64 = 3000;
 const RANDOM_OPERATIONS: u64 = 4000;
@@ -63,6 +69,7 @@ fn requests() -> Vec<u8> {
     let mut bytes = Vec::new();
     layouts(&mut bytes);
     routes(&mut bytes);
+    forked_routes(&mut bytes);
     maps(&mut bytes);
     compositions(&mut bytes);
     operations(&mut bytes);
@@ -100,6 +107,19 @@ fn routes(bytes: &mut Vec<u8>) {
     repeated_stations(&mut text);
     bytes.extend(text.bytes());
     random_group(bytes, "routes", RANDOM_ROUTES, Kind::Route);
+}
+
+/// The requests about trees of stations.
+fn forked_routes(bytes: &mut Vec<u8>) {
+    let mut text = String::new();
+    trees(&mut text);
+    for (title, lines) in TREE_PARENTS.iter().chain(TREE_RULES) {
+        group(&mut text, title, lines.iter());
+    }
+    row_trees(&mut text);
+    long_trees(&mut text);
+    bytes.extend(text.bytes());
+    random_group(bytes, "trees", RANDOM_TREES, Kind::Tree);
 }
 
 /// The requests about maps.

@@ -1,10 +1,14 @@
 -- Two nets that agree on the stations and places that there are have the same least cost and the same best plan. Assumes nothing.
 use Prim.Native.Nat.{ℕ, zero, suc, _+_, _*_, _-_, _≤_, _<_}
 use mathlib.Core.Path.{_≡_, refl, ap, ap₂, _∙_}
+use mathlib.Core.Bool.{true, false}
 use mathlib.Core.List.{List, _∷_}
 use native.Mathlib.Omega.{arith}
+use lib.Dec.{ltb}
+use lib.ListN.{replicate}
 use Rattle.plan.specs.Net.{Net, Coming, price, still, after}
-use Rattle.plan.specs.Value.{leastOf, placeOf, through, valueOf, choice, planOf, leastCost, bestPlan}
+use Rattle.plan.specs.Value.{far, leastOf, placeOf, through, valueOf, choice, planOf, leastCost, bestPlan}
+use Rattle.plan.specs.Answer.{maxStations, spread, planAnswer, pickPlan}
 use Rattle.plan.proofs.Scan.{Same, least-agree, place-agree, through-agree, place-low}
 use Rattle.plan.proofs.Optimal.{rest}
 
@@ -90,26 +94,11 @@ module _ (N N′ : Net) (A : Alike N N′) where
       plan-alike (N .stations) 0 moves still still (omega arith) (λ b l h. still-same b)
       ∙ ap (λ (n : ℕ). planOf N′ n 0 moves still) (A .stations)
 
--- One net, come to in two ways that are the same at every place.
-module _ (N : Net) (k i m : ℕ) (from from′ : Coming) (f : (b : ℕ) → Same from from′ b) where
-  through-coming : (b : ℕ) → through (N .cells) m (N .size i) from (rest N k i m from) b ≡ through (N .cells) m (N .size i) from′ (rest N k i m from′) b
-  through-coming b =
-      through-agree (N .cells) m _ _ _ _ _ _ b refl (f b)
-      (ap (λ (x : ℕ). valueOf N k (i + 1) (m - x) (after N i b)) (f b .moves))
-
-  pub value-coming : valueOf N (suc k) i m from ≡ valueOf N (suc k) i m from′
-  unfolding valueOf
-  value-coming = least-agree (N .count i) _ _ (λ b h. through-coming b)
-
-  pub plan-coming : planOf N (suc k) i m from ≡ planOf N (suc k) i m from′
-  unfolding planOf
-  plan-coming =
-      ap₂ (λ (x : ℕ) (p : List ℕ). x ∷ p) chosen
-      (ap (λ (x : ℕ). planOf N k (i + 1) (m - x) (after N i a)) (f a .moves)
-      ∙ ap (λ (x : ℕ). planOf N k (i + 1) (m - from′ .moves x) (after N i x)) chosen)
-    where
-      a : ℕ
-      a = choice N k i m from
-
-      chosen : a ≡ choice N k i m from′
-      chosen = place-agree (N .count i) _ _ (λ b h. through-coming b)
+  pub answer-alike : (moves : ℕ) → planAnswer N moves ≡ planAnswer N′ moves
+  unfolding planAnswer
+  answer-alike moves =
+      ap₂
+      (λ (c : ℕ) (p : List ℕ).
+      pickPlan (ltb c far) (record { found = true; places = p; total = c }) (record { found = false; places = replicate maxStations 0; total = 0 }))
+      (cost-alike moves)
+      (ap₂ spread (A .stations) (best-alike moves))

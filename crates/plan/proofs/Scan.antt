@@ -1,32 +1,11 @@
--- One turn of a scan for the least, and what agrees below n has one least. Assumes nothing.
-use Prim.Native.Nat.{ℕ, zero, suc, _+_, _*_, _-_, _≤_, _<_, min}
-use mathlib.Core.Path.{_≡_, refl, ap, ap₂, _∙_}
+-- The place of the least, and what agrees below n has one least. Assumes nothing.
+use Prim.Native.Nat.{ℕ, zero, suc, _*_, _-_, _≤_, _<_, min}
+use mathlib.Core.Path.{_≡_, refl, ap₂}
 use mathlib.Core.Bool.{Bool, true, false}
 use lib.Dec.{ltb}
-use native.Mathlib.Numerals.{add-one}
 use native.Mathlib.Omega.{arith}
-use borrow.Author.Tests.{lt-ltb, le-ltb}
 use Rattle.plan.specs.Net.{Coming}
 use Rattle.plan.specs.Value.{pick, leastOf, placeOf, through}
-
-pub took :
-    (f : ℕ → ℕ) (b cost c : ℕ) → cost ≡ leastOf b f → c ≡ f b → c < cost → (b ≡ placeOf (b + 1) f) × (c ≡ leastOf (b + 1) f)
-unfolding leastOf placeOf
-took f b cost c e r l =
-    let h : f b < leastOf b f = omega arith in
-    (rw add-one (simp (lt-ltb _ _ h)), rw add-one (omega arith))
-
-pub kept :
-    (f : ℕ → ℕ) (b place cost c : ℕ) →
-    place ≡ placeOf b f →
-    cost ≡ leastOf b f →
-    c ≡ f b →
-    cost ≤ c →
-    (place ≡ placeOf (b + 1) f) × (cost ≡ leastOf (b + 1) f)
-unfolding leastOf placeOf
-kept f b place cost c p e r l =
-    let h : leastOf b f ≤ f b = omega arith in
-    (rw add-one (simp (le-ltb _ _ h) p), rw add-one (omega arith))
 
 -- The place of the least is a place.
 pub place-low : (n : ℕ) (f : ℕ → ℕ) → placeOf n f ≤ n - 1
@@ -37,12 +16,6 @@ place-low (suc n) f = low (place-low n f) (ltb (f n) (leastOf n f))
     low : placeOf n f ≤ n - 1 → (t : Bool) → pick t n (placeOf n f) ≤ suc n - 1
     low h true = omega arith
     low h false = omega arith
-
-pub ended :
-    (f : ℕ → ℕ) (b n place cost : ℕ) → place ≡ placeOf b f → cost ≡ leastOf b f → b ≡ n → n ≤ 8 → (place ≡ placeOf n f) × ((cost ≡ leastOf n f) × (place < 8))
-ended f b n place cost p c e h =
-    let r : place ≡ placeOf n f = p ∙ ap (λ (x : ℕ). placeOf x f) e in
-    (r, (c ∙ ap (λ (x : ℕ). leastOf x f) e, omega (arith, place-low n f)))
 
 -- What agrees below n.
 pub least-agree : (n : ℕ) (f g : ℕ → ℕ) → ((b : ℕ) → b < n → f b ≡ g b) → leastOf n f ≡ leastOf n g

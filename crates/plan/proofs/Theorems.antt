@@ -1,12 +1,11 @@
 -- The theorems of the planner: its answer is the best plan, and there is one best plan only. Assumes nothing.
 use Prim.Native.Nat.{ℕ, _+_, _*_, _^_, _≤_, _<_}
 use mathlib.Core.Path.{_≡_, sym, ap, _∙_}
-use mathlib.Core.Logic.{⊎-elim}
-use mathlib.Core.List.{List, [], _∷_}
-use native.Mathlib.Omega.{arith}
-use Rattle.plan.specs.Net.{Net, still, movesOf, planCost, Before, Admitted, Best}
+use mathlib.Core.List.{List}
+use Rattle.plan.specs.Net.{Net, still, movesOf, planCost, Admitted, Best}
 use Rattle.plan.specs.Value.{far, leastCost, bestPlan}
 use Rattle.plan.proofs.Bounds.{Small, cost-most, cost-190}
+use Rattle.plan.proofs.Order.{one-least}
 use Rattle.plan.proofs.Optimal.{found, none-admitted}
 
 -- Where the least cost is below `far`, the plan is the best one, and the least cost is its cost.
@@ -30,25 +29,12 @@ pub cost-at-most :
     (N : Net) → Small N → N .stations ≤ 64 → (moves : ℕ) (p : List ℕ) → Admitted N moves p → planCost N p ≤ 190 * 2 ^ 40
 cost-at-most = cost-190
 
-before-asym : (p q : List ℕ) → Before p q → Before q p → ⊥
-unfolding Before
-before-asym [] q b c = b
-before-asym (a ∷ p) [] b c = b
-before-asym (a ∷ p) (x ∷ q) b c =
-    ⊎-elim
-    (λ (l : a < x). ⊎-elim (λ (m : x < a). omega arith) (λ m. omega (arith, m .0)) c)
-    (λ l. ⊎-elim (λ (m : x < a). omega (arith, l .0)) (λ m. before-asym p q (l .1) (m .1)) c)
-    b
-
 -- The best plan is the only one, and so is its total.
 pub best-one : (N : Net) (moves v w : ℕ) (p q : List ℕ) → Best N moves v p → Best N moves w q → (p ≡ q) × (v ≡ w)
 best-one N moves v w p q r s = (same, r .total ∙ ap (planCost N) same ∙ sym (s .total))
   where
-    cost : planCost N p ≡ planCost N q
-    cost = omega (arith, r .least q (s .admitted), s .least p (r .admitted))
-
     same : p ≡ q
     same =
-        ⊎-elim (λ (e : q ≡ p). sym e)
-        (λ b. ⊎-elim (λ (e : p ≡ q). e) (λ c. absurd (before-asym p q b c)) (s .first p (r .admitted) cost))
-        (r .first q (s .admitted) (sym cost))
+        one-least (Admitted N moves) (planCost N) p q
+        (record { held = r .admitted; least = r .least; first = r .first })
+        (record { held = s .admitted; least = s .least; first = s .first })

@@ -1,5 +1,3 @@
 pub mod Net
 pub mod Value
-pub mod Tabled
-pub mod Ready
 pub mod Answer

@@ -1,59 +1,67 @@
 -- From the planner's answer to the answer of the call. Assumes nothing.
-use mathlib.Core.Path.{_≡_, refl, sym, ap, ap₂, _∙_, subst}
+use mathlib.Core.Path.{_≡_, refl, sym, ap, _∙_, subst}
 use mathlib.Core.Bool.{Bool, true, false}
 use mathlib.Core.List.{List, [], _∷_, _++_}
-use Prim.Native.Nat.{ℕ, _+_, _<_, _≤_, _^_}
+use Prim.Native.Nat.{ℕ, suc, _+_, _*_, _<_, _≤_}
+use native.Mathlib.Numerals.{add-one}
 use native.Mathlib.Omega.{arith}
 use borrow.Author.Tests.{leb-true, ltb-true}
-use lib.Dec.{leb, ltb}
-use lib.ListN.{length, replicate}
+use lib.Dec.{leb}
+use lib.ListN.{length, getD, replicate}
 use Rattle.radix.specs.Radix.{maxCount}
 use Rattle.radix.proofs.Tests.{every-at}
-use Rattle.refusal.specs.Judge.{judge, unless}
-use Rattle.refusal.specs.Number.{answered, done}
+use Rattle.refusal.specs.Judge.{Rule, rule, judge, unless}
+use Rattle.refusal.specs.Number.{Answer, answered, done, refusal}
 use Rattle.refusal.specs.declared.Refusal.{Refusal}
 use Rattle.refusal.specs.declared.Refusal.the-variants.{NoPlan}
+use Rattle.refusal.specs.declared.Verdict.{Verdict}
 use Rattle.refusal.specs.declared.Verdict.the-variants.{Done, Refused}
 use Rattle.refusal.proofs.Judged.{kept, after-done, after-refused}
 use Rattle.shape.specs.Shape.{goodShape}
 use Rattle.shape.specs.declared.Shape.{Shape}
 use Rattle.layout.specs.Layout.{paddedOf}
-use Rattle.plan.specs.Net.{Net}
-use Rattle.plan.specs.Value.{far, leastCost, bestPlan, hasPlan}
-use Rattle.plan.specs.Tabled.{tabled, Usable}
-use Rattle.plan.specs.Answer.{maxStations, spread, planAnswer, pickPlan}
+use Rattle.plan.specs.Answer.{maxStations, spread, pickPlan}
 use Rattle.plan.specs.declared.Plan.{Plan}
-use Rattle.plan.proofs.Alike.{Alike, cost-alike, best-alike}
-use Rattle.plan.proofs.Theorems.{best-found}
-use Rattle.route.specs.Stations.{stationAt, layoutAt, goodSizes, sizesKept, netOf}
+use Rattle.tree_plan.specs.Tree.{Earlier, Formed}
+use Rattle.tree_plan.specs.Weight.{bestPlan, hasPlan}
+use Rattle.tree_plan.specs.Answer.{treeAnswer}
+use Rattle.tree_plan.proofs.Bounds.{Small}
+use Rattle.tree_plan.proofs.Alike.{Alike, answer-alike}
+use Rattle.tree_plan.proofs.Theorems.{best-found}
+use Rattle.tree_planner.specs.Words.{tabled, Usable}
+use Rattle.tree_planner.proofs.Theorems.{tabled-formed, tabled-small}
+use Rattle.route.specs.Same.{moveOf}
+use Rattle.route.specs.Stations.{stationAt, layoutAt, goodSizes, sizesKept, treeOf}
 use Rattle.route.specs.Route.{routeRules, planRule, routeZeros, routeValues, routeOf, routeAnswer, noRouteOf, breaksNoRule}
-use Rattle.route.specs.Loading.{Reads, Sound, Holds, Entered, Judges, Answers}
+use Rattle.route.specs.Loading.{Reads, feeding, Sound, Holds, Entered, Judges, Answers}
 use Rattle.route.specs.declared.Station.{Station}
 use Rattle.route.specs.declared.load.Loaded.{Loaded}
-use Rattle.route.proofs.Entering.{counts-low}
+use Rattle.route.proofs.Entering.{counts-low, parents-low, feeding-is, move-low}
 use Rattle.route.proofs.Judging.{Limited, Unbroken, unbroken}
 
 -- the tables are what the planner asks for
 pub usable :
-    (rank : ℕ) (h : Loaded) (number cells moves : ℕ) →
+    (h : Loaded) (number cells moves : ℕ) →
+    length (h .parents) ≡ 64 →
     length (h .counts) ≡ 64 →
     length (h .sizes) ≡ 512 →
     length (h .moved) ≡ 4096 →
-    Sound rank h →
+    Sound h →
     Limited number cells moves →
-    Usable (h .counts) (h .sizes) (h .moved) number cells
-usable rank h number cells moves a b c S L =
+    Usable (h .parents) (h .counts) (h .sizes) (h .moved) number cells
+usable h number cells moves p a b c S L =
     record {
       some = L .some;
       few = L .few;
+      parents-in = p;
       counts-in = a;
       sizes-in = b;
       moved-in = c;
       cells-in = L .cells-in;
+      parent = λ i l. S .parents i;
       count = S .counts;
       low = λ k. omega (arith, S .sizes k);
       ones = S .ones;
-      start = S .start;
     }
 
 -- padded sizes within 2^40 are exact
@@ -66,56 +74,88 @@ sizes-low s ys n e i a l g =
     a
     g)
 
--- the tables hold the route's net
+-- the tree of an input that breaks no rule is one that the planner takes
+module _ (s : Shape) (ys : List Station) (number cells moves : ℕ) (U : Unbroken s ys number cells moves) where
+  pub tree-formed : Formed (treeOf s ys number cells)
+  unfolding Earlier
+  tree-formed =
+      record {
+        some = U .limits .some;
+        few = U .limits .few;
+        places = λ i l. counts-low ys number (U .numbers) i l .1;
+        earlier = parents-low ys number (U .numbers);
+      }
+
+  pub tree-small : Small (treeOf s ys number cells)
+  tree-small = record { cells = U .limits .cells-in; moved = λ i a b. move-low _ _ }
+
+-- the tables hold the tree of the stations
 pub tables-alike :
     (s : Shape) (ys : List Station) (h : Loaded) (number cells moves : ℕ) →
     Unbroken s ys number cells moves →
     Entered s ys number h →
-    Alike (tabled (h .counts) (h .sizes) (h .moved) number cells) (netOf s ys number cells)
+    Alike (tabled (h .parents) (h .counts) (h .sizes) (h .moved) number cells) (treeOf s ys number cells)
 tables-alike s ys h number cells moves U E =
     record {
       stations = refl;
       cells = refl;
-      some = λ i l. omega (arith, E .counts i l, counts-low ys number (U .counts) i l .0);
-      count = λ i l. E .counts i l;
+      parent = λ i l. rw (← add-one i) (E .parents i (omega arith));
+      count = E .counts;
       size =
           λ i a l g.
           let f : a < stationAt ys i .count = omega (arith, E .counts i l) in
           omega (arith, E .sizes i a l f, sizes-low s ys number (U .sizes) i a l f);
-      moved =
-          λ i a b l g f.
-          E .moved i a b l (omega (arith, E .counts i (omega arith))) (omega (arith, E .counts (i + 1) l));
+      moved = moved;
     }
+  where
+    moved :
+        (i a b : ℕ) →
+        suc i < number →
+        a < getD (h .counts) (getD (h .parents) (suc i) 0) 0 →
+        b < getD (h .counts) (suc i) 0 →
+        getD (h .moved) ((suc i * 8 + a) * 8 + b) 0
+        ≡ moveOf (layoutAt (stationAt ys (stationAt ys (suc i) .parent)) a) (layoutAt (stationAt ys (suc i)) b)
+    moved i a b l g f =
+        let p : getD (h .parents) (suc i) 0 ≡ stationAt ys (suc i) .parent = rw (← add-one i) (E .parents i (omega arith)) in
+        let q : stationAt ys (suc i) .parent < suc i = omega (arith, rw add-one at (parents-low ys number (U .numbers) i (omega arith))) in
+        let e : feeding (suc i) (stationAt ys (suc i)) ≡ stationAt ys (suc i) .parent = feeding-is (suc i) (stationAt ys (suc i)) q in
+        let g′ : a < stationAt ys (feeding (suc i) (stationAt ys (suc i))) .count =
+        omega (arith, ap (λ (k : ℕ). getD (h .counts) k 0) p, E .counts (stationAt ys (suc i) .parent) (omega arith), ap (λ (k : ℕ). stationAt ys k .count) e)
+        in
+        E .moved (suc i) a b l g′ (omega (arith, E .counts (suc i) l))
+        ∙ ap (λ (k : ℕ). moveOf (layoutAt (stationAt ys k) a) (layoutAt (stationAt ys (suc i)) b)) e
 
--- what the planner's answer says
-pub record Found (N : Net) (moves : ℕ) (p : Plan) : Type 0 where
-  pub has : hasPlan N moves ≡ true
-  pub places : p .places ≡ spread (N .stations) (bestPlan N moves)
-  pub total : p .total ≡ leastCost N moves
+-- the answer to a plan that is found, or not
+abbrev pub planned : Bool → Plan → Answer ℕ
+planned true p = done (p .places ++ (p .total ∷ []))
+planned false p = refusal routeZeros NoPlan
 
-pub found-is : (N : Net) (moves : ℕ) (p : Plan) → p ≡ planAnswer N moves → p .found ≡ true → Found N moves p
-unfolding planAnswer
-found-is N moves p e f = go (hasPlan N moves) refl e
+-- a planner's answer: these places and this total, or zeros
+abbrev pub picked : List ℕ → ℕ → Bool → Plan
+picked places total b =
+    pickPlan b (record { found = true; places = places; total = total })
+    (record { found = false; places = replicate maxStations 0; total = 0 })
+
+-- behind rules that are kept it is the answer, or rule 10
+pub after-rules :
+    (places : List ℕ) (total : ℕ) (b : Bool) (rules : List Rule) →
+    judge rules ≡ Done →
+    (p : Plan) →
+    p ≡ picked places total b →
+    (values : List ℕ) →
+    (b ≡ true → values ≡ places ++ (total ∷ [])) →
+    planned (p .found) p ≡ answered routeZeros (judge (rules ++ (rule b NoPlan ∷ []))) values
+after-rules places total b rules k p q values v =
+    ap (λ (x : Plan). planned (x .found) x) q
+    ∙ go b v
+    ∙ ap (λ (w : Verdict). answered routeZeros w values) (sym (after-done rules (rule b NoPlan ∷ []) k))
   where
     go :
-        (b : Bool) →
-        hasPlan N moves ≡ b →
-        p ≡ pickPlan b (record { found = true; places = spread (N .stations) (bestPlan N moves); total = leastCost N moves }) (record { found = false; places = replicate maxStations 0; total = 0 }) →
-        Found N moves p
-    go true h e = record { has = h; places = ap (λ (x : Plan). x .places) e; total = ap (λ (x : Plan). x .total) e }
-    go false h e = absurd (let z : true ≡ false = sym f ∙ ap (λ (x : Plan). x .found) e in let y : _≡_ {A = ℕ} 0 1 = cc in omega arith)
-
-pub none-is : (N : Net) (moves : ℕ) (p : Plan) → p ≡ planAnswer N moves → p .found ≡ false → hasPlan N moves ≡ false
-unfolding planAnswer
-none-is N moves p e f = go (hasPlan N moves) refl e
-  where
-    go :
-        (b : Bool) →
-        hasPlan N moves ≡ b →
-        p ≡ pickPlan b (record { found = true; places = spread (N .stations) (bestPlan N moves); total = leastCost N moves }) (record { found = false; places = replicate maxStations 0; total = 0 }) →
-        hasPlan N moves ≡ false
-    go true h e = absurd (let z : true ≡ false = sym (ap (λ (x : Plan). x .found) e) ∙ f in let y : _≡_ {A = ℕ} 0 1 = cc in omega arith)
-    go false h e = h
+        (t : Bool) →
+        (t ≡ true → values ≡ places ++ (total ∷ [])) →
+        planned (picked places total t .found) (picked places total t) ≡ answered routeZeros (unless t NoPlan Done) values
+    go true w = ap done (sym (w refl))
+    go false w = refl
 
 module _ (s : Shape) (ys : List Station) (number cells moves : ℕ) where
   pub answer-refused :
@@ -127,14 +167,26 @@ module _ (s : Shape) (ys : List Station) (number cells moves : ℕ) where
       (after-refused (routeRules s ys number cells moves) (planRule s ys number cells moves ∷ []) r e))
 
   module _ (e : breaksNoRule s ys number cells moves) where
-    pub answer-none : hasPlan (netOf s ys number cells) moves ≡ false → routeAnswer (noRouteOf NoPlan) ≡ routeOf s ys number cells moves
+    -- the answer from the planner's
+    pub answer-planned :
+        (p : Plan) → p ≡ treeAnswer (treeOf s ys number cells) moves → planned (p .found) p ≡ routeOf s ys number cells moves
+    unfolding routeOf treeAnswer
+    answer-planned p q =
+        let F = tree-formed s ys number cells moves (unbroken s ys number cells moves e) in
+        after-rules _ _ (hasPlan (treeOf s ys number cells) moves) (routeRules s ys number cells moves) e p q
+        (routeValues s ys number cells moves)
+        (λ h.
+        ap (λ (t : ℕ). spread number (bestPlan (treeOf s ys number cells) moves) ++ (t ∷ []))
+        (sym (best-found (treeOf s ys number cells) F moves (ltb-true _ _ h) .total)))
+
+    pub answer-none : hasPlan (treeOf s ys number cells) moves ≡ false → routeAnswer (noRouteOf NoPlan) ≡ routeOf s ys number cells moves
     unfolding routeOf
     answer-none f =
         sym
         (ap (λ v. answered routeZeros v (routeValues s ys number cells moves))
         (after-done (routeRules s ys number cells moves) (planRule s ys number cells moves ∷ []) e ∙ ap (λ (b : Bool). unless b NoPlan Done) f))
 
-    pub answer-values : hasPlan (netOf s ys number cells) moves ≡ true → done (routeValues s ys number cells moves) ≡ routeOf s ys number cells moves
+    pub answer-values : hasPlan (treeOf s ys number cells) moves ≡ true → done (routeValues s ys number cells moves) ≡ routeOf s ys number cells moves
     unfolding routeOf
     answer-values f =
         sym
@@ -148,7 +200,8 @@ module _ (s : Shape) (h : Loaded) (len number cells moves : ℕ) where
       record { answer = λ ys n e R H. answer-refused s ys number cells moves r (sym (J .judged ys n e R H)) }
 
   module _ (J : Judges s h len number cells moves Done) (p : Plan)
-      (q : p ≡ planAnswer (tabled (h .counts) (h .sizes) (h .moved) number cells) moves) where
+      (q : p ≡ treeAnswer (tabled (h .parents) (h .counts) (h .sizes) (h .moved) number cells) moves)
+      (u : Usable (h .parents) (h .counts) (h .sizes) (h .moved) number cells) where
     module _ (ys : List Station) (n : ℕ) (e : length ys ≡ len) (R : Reads s number len n) (H : Holds s ys n h) where
       clean : breaksNoRule s ys number cells moves
       clean = sym (J .judged ys n e R H)
@@ -156,25 +209,26 @@ module _ (s : Shape) (h : Loaded) (len number cells moves : ℕ) where
       facts : Unbroken s ys number cells moves
       facts = unbroken s ys number cells moves clean
 
-      alike : Alike (tabled (h .counts) (h .sizes) (h .moved) number cells) (netOf s ys number cells)
-      alike =
+      -- the planner's answer is that of the tree of the stations
+      made : p ≡ treeAnswer (treeOf s ys number cells) moves
+      made =
           let U = facts in
-          let g : goodShape s ≡ true = shape-good in
-          let m : n ≡ number = omega (arith, R .all g (U .limits .few), U .long) in
+          let m : n ≡ number = omega (arith, R .all (kept (goodShape s) _ _ clean) (U .limits .few), U .long) in
           let K : Holds s ys number h = subst (λ (k : ℕ). Holds s ys k h) m H in
-          tables-alike s ys h number cells moves U (K .entered (U .counts) (U .layouts))
-        where
-          shape-good : goodShape s ≡ true
-          shape-good = kept (goodShape s) _ _ clean
+          q
+          ∙ answer-alike _ _ (tabled-formed _ _ _ _ _ _ u) (tree-formed s ys number cells moves U)
+          (tables-alike s ys h number cells moves U (K .entered (U .numbers) (U .layouts)))
+          (tabled-small _ _ _ _ _ _ u)
+          (tree-small s ys number cells moves U)
+          moves
 
     pub finish-none : p .found ≡ false → Answers s h len number cells moves (noRouteOf NoPlan)
     finish-none f =
         record {
           answer =
               λ ys n e R H.
-              let A = alike ys n e R H in
-              answer-none s ys number cells moves (clean ys n e R H)
-              (ap (λ (v : ℕ). ltb v far) (sym (cost-alike _ _ A moves)) ∙ none-is _ moves p q f);
+              ap (λ (b : Bool). planned b p) (sym f)
+              ∙ answer-planned s ys number cells moves (clean ys n e R H) p (made ys n e R H);
         }
 
     pub finish-some : p .found ≡ true → Answers s h len number cells moves (record { verdict = Done; places = p .places; total = p .total })
@@ -182,12 +236,6 @@ module _ (s : Shape) (h : Loaded) (len number cells moves : ℕ) where
         record {
           answer =
               λ ys n e R H.
-              let A = alike ys n e R H in
-              let F = found-is _ moves p q f in
-              let has : hasPlan (netOf s ys number cells) moves ≡ true = ap (λ (v : ℕ). ltb v far) (sym (cost-alike _ _ A moves)) ∙ F .has in
-              ap done
-              (ap₂ (λ (l : List ℕ) (t : ℕ). l ++ (t ∷ []))
-              (F .places ∙ ap (spread number) (best-alike _ _ A moves))
-              (F .total ∙ cost-alike _ _ A moves ∙ best-found (netOf s ys number cells) moves (ltb-true _ _ has) .total))
-              ∙ answer-values s ys number cells moves (clean ys n e R H) has;
+              ap (λ (b : Bool). planned b p) (sym f)
+              ∙ answer-planned s ys number cells moves (clean ys n e R H) p (made ys n e R H);
         }

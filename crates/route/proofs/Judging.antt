@@ -2,13 +2,13 @@
 use mathlib.Core.Path.{_≡_, refl, sym, ap₂, _∙_, subst}
 use mathlib.Core.Bool.{Bool, true, false, _&&_}
 use mathlib.Core.List.{List, [], _∷_}
-use Prim.Native.Nat.{ℕ, _≤_}
+use Prim.Native.Nat.{ℕ, suc, _≤_, _<_}
 use native.Mathlib.Omega.{arith}
-use borrow.Author.Tests.{leb-true}
+use borrow.Author.Tests.{leb-true, le-ltb}
 use lib.Dec.{leb}
 use lib.ListN.{length}
 use Rattle.radix.specs.Radix.{maxCount}
-use Rattle.radix.proofs.Tests.{and-left, and-right}
+use Rattle.radix.proofs.Tests.{and-false, and-left, and-right, every-not}
 use Rattle.refusal.specs.Judge.{Rule, unless, judge}
 use Rattle.refusal.specs.declared.Refusal.{Refusal}
 use Rattle.refusal.specs.declared.Refusal.the-variants.{ShapeLimits, Attribute, LayoutRule}
@@ -18,8 +18,8 @@ use Rattle.refusal.proofs.Judged.{kept, rest}
 use Rattle.shape.specs.Shape.{goodShape}
 use Rattle.shape.specs.declared.Shape.{Shape}
 use Rattle.plan.specs.Answer.{maxStations}
-use Rattle.route.specs.Stations.{countsKept, layoutsKept, sizesKept}
-use Rattle.route.specs.Route.{maxMoves, goodLimits, recordsRead, breaksNoRule}
+use Rattle.route.specs.Stations.{stationAt, goodParent, countsKept, parentsKept, layoutsKept, sizesKept}
+use Rattle.route.specs.Route.{maxMoves, goodLimits, recordsRead, numbersKept, routeRules, breaksNoRule}
 use Rattle.route.specs.LayoutRepeats.{repeatRule}
 use Rattle.route.specs.Loading.{Reads, Holds, firstRefusal, sizeRules, Judges}
 use Rattle.route.specs.declared.Station.{Station}
@@ -53,7 +53,7 @@ limited number cells moves e =
 -- none of the rules 1 to 9 applies, as facts
 pub record Unbroken (s : Shape) (ys : List Station) (number cells moves : ℕ) : Type 0 where
   pub limits : Limited number cells moves
-  pub counts : countsKept ys number ≡ true
+  pub numbers : numbersKept ys number ≡ true
   pub layouts : layoutsKept s ys number ≡ true
   pub lists : repeatRule ys number .kept ≡ true
   pub sizes : sizesKept s ys number ≡ true
@@ -62,21 +62,36 @@ pub record Unbroken (s : Shape) (ys : List Station) (number cells moves : ℕ) :
 pub unbroken : (s : Shape) (ys : List Station) (number cells moves : ℕ) → breaksNoRule s ys number cells moves → Unbroken s ys number cells moves
 unbroken s ys number cells moves e =
     let e2 = rest (goodShape s) _ _ e in
-    let c = kept (goodLimits number cells moves && countsKept ys (recordsRead ys number)) _ _ e2 in
-    let e3 = rest (goodLimits number cells moves && countsKept ys (recordsRead ys number)) _ _ e2 in
+    let c = kept (goodLimits number cells moves && numbersKept ys (recordsRead ys number)) _ _ e2 in
+    let e3 = rest (goodLimits number cells moves && numbersKept ys (recordsRead ys number)) _ _ e2 in
     let e4 = rest (layoutsKept s ys (recordsRead ys number)) _ _ e3 in
     let e5 = rest (repeatRule ys (recordsRead ys number) .kept) _ _ e4 in
     let e6 = rest (sizesKept s ys (recordsRead ys number)) _ _ e5 in
     let l : number ≤ length ys = leb-true _ _ (kept (leb number (length ys)) _ _ e6) in
     let n : recordsRead ys number ≡ number = omega arith in
     record {
-      limits = limited number cells moves (and-left (goodLimits number cells moves) (countsKept ys (recordsRead ys number)) c);
-      counts = subst (λ (k : ℕ). countsKept ys k ≡ true) n (and-right (goodLimits number cells moves) (countsKept ys (recordsRead ys number)) c);
+      limits = limited number cells moves (and-left (goodLimits number cells moves) (numbersKept ys (recordsRead ys number)) c);
+      numbers = subst (λ (k : ℕ). numbersKept ys k ≡ true) n (and-right (goodLimits number cells moves) (numbersKept ys (recordsRead ys number)) c);
       layouts = subst (λ (k : ℕ). layoutsKept s ys k ≡ true) n (kept (layoutsKept s ys (recordsRead ys number)) _ _ e3);
       lists = subst (λ (k : ℕ). repeatRule ys k .kept ≡ true) n (kept (repeatRule ys (recordsRead ys number) .kept) _ _ e4);
       sizes = subst (λ (k : ℕ). sizesKept s ys k ≡ true) n (kept (sizesKept s ys (recordsRead ys number)) _ _ e5);
       long = l;
     }
+
+-- a parent that is not earlier, of a record that is read
+pub late-parent :
+    (s : Shape) (ys : List Station) (number cells moves i : ℕ) →
+    goodShape s ≡ true →
+    suc i < recordsRead ys number →
+    suc i ≤ stationAt ys (suc i) .parent →
+    judge (routeRules s ys number cells moves) ≡ Refused Attribute
+unfolding numbersKept parentsKept
+late-parent s ys number cells moves i g l h =
+    let p : parentsKept ys (recordsRead ys number) ≡ false =
+    every-not (λ (k : ℕ). goodParent k (stationAt ys k)) (recordsRead ys number) (suc i) l (le-ltb _ _ h)
+    in
+    let q : numbersKept ys (recordsRead ys number) ≡ false = and-false (countsKept ys (recordsRead ys number)) p in
+    rw (g, and-false (goodLimits number cells moves) q)
 
 -- a rule and the rules after it, judged apart
 pub rule-first : (x : Rule) (xs : List Rule) → firstRefusal (judge (x ∷ [])) (judge xs) ≡ judge (x ∷ xs)
@@ -102,14 +117,14 @@ module _ (s : Shape) (h : Loaded) (len number cells moves : ℕ) where
           let q : n ≡ recordsRead ys number = omega (arith, R .all g few) in
           subst (λ (k : ℕ). Holds s ys k h) q H
 
-      pub no-counts : h .«counts_kept» ≡ false → Judges s h len number cells moves (Refused Attribute)
-      no-counts f =
+      pub no-numbers : h .«numbers_kept» ≡ false → Judges s h len number cells moves (Refused Attribute)
+      no-numbers f =
           record {
             limits = λ q. not-done Attribute q;
-            judged = λ ys n e R H. rw (g, m, sym (held ys n e R H .counts) ∙ f);
+            judged = λ ys n e R H. rw (g, m, sym (held ys n e R H .numbers) ∙ f);
           }
 
-      module _ (c : h .«counts_kept» ≡ true) where
+      module _ (c : h .«numbers_kept» ≡ true) where
         pub no-layouts : h .«layouts_kept» ≡ false → Judges s h len number cells moves (Refused LayoutRule)
         no-layouts f =
             record {
@@ -117,26 +132,28 @@ module _ (s : Shape) (h : Loaded) (len number cells moves : ℕ) where
               judged =
                   λ ys n e R H.
                   let K = held ys n e R H in
-                  let c′ = sym (K .counts) ∙ c in
+                  let c′ = sym (K .numbers) ∙ c in
                   rw (g, m, c′, sym (K .layouts c′) ∙ f);
             }
 
         -- the repeat, then the rules 4 and 9
         pub after-layouts :
             h .«layouts_kept» ≡ true →
-            (v : Verdict) →
-            v ≡ firstRefusal (h .repeat) (judge (sizeRules (h .«sizes_kept») len number)) →
+            (v w : Verdict) →
+            w ≡ judge (sizeRules (h .«sizes_kept») len number) →
+            v ≡ firstRefusal (h .repeat) w →
             Judges s h len number cells moves v
-        after-layouts l v q =
+        after-layouts l v w p q =
             record {
               limits = λ _. m;
               judged =
                   λ ys n e R H.
                   let K = held ys n e R H in
-                  let c′ = sym (K .counts) ∙ c in
+                  let c′ = sym (K .numbers) ∙ c in
                   let l′ = sym (K .layouts c′) ∙ l in
                   q
                   ∙ ap₂ firstRefusal (K .repeat c′ l′)
-                  (ap₂ (λ (b : Bool) (k : ℕ). judge (sizeRules b k number)) (K .sizes c′ l′) (sym e))
+                  (p
+                  ∙ ap₂ (λ (b : Bool) (k : ℕ). judge (sizeRules b k number)) (K .sizes c′ l′) (sym e))
                   ∙ rw (g, m, c′, l′) (rule-first (repeatRule ys (recordsRead ys number)) (sizeRules (sizesKept s ys (recordsRead ys number)) (length ys) number));
             }

@@ -1,4 +1,5 @@
--- Laws of a layout that stands twice in a list: a station by itself, one station more, what the rule names, and what it says where it is kept. Assumes nothing.
+-- Laws of a layout that stands twice in a list: a station by itself, one station more, what the rule names, and what it
+-- says where it is kept. Assumes nothing.
 use mathlib.Core.Path.{_≡_, refl, sym, ap, _∙_, subst}
 use mathlib.Core.Bool.{Bool, true, false, not}
 use mathlib.Core.Logic.{⊎-elim}

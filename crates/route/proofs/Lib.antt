@@ -5,6 +5,7 @@ pub mod Entering
 pub mod Judging
 pub mod Answering
 pub mod PastCounts
+pub mod Forks
 pub mod RepeatAnswers
 pub mod Plans
 pub mod Machine

@@ -1,14 +1,13 @@
--- What a record holds past its counts alters nothing: lists of stations that agree up to their counts have one answer. Assumes nothing.
+-- What a record holds past its counts alters nothing, nor does the first station's parent: lists of stations that agree
+-- up to these have one answer. Assumes nothing.
 use mathlib.Core.Path.{_≡_, refl, sym, ap, ap₂, _∙_}
-use mathlib.Core.Bool.{Bool, true, false, _&&_, cond}
-use mathlib.Core.List.{List, [], _∷_, _++_, head-eq-of-cons-eq, tail-eq-of-cons-eq}
+use mathlib.Core.Bool.{Bool, _&&_, cond}
+use mathlib.Core.List.{List, [], _∷_, head-eq-of-cons-eq, tail-eq-of-cons-eq}
 use Prim.Native.Nat.{ℕ, zero, suc, _+_, _<_, min}
 use native.Mathlib.Omega.{arith}
-use borrow.Author.Tests.{ltb-true}
 use lib.Dec.{leb, eqb, ltb}
 use lib.ListN.{length, drop}
 use Rattle.radix.specs.Radix.{maxCount, every, isWithin}
-use Rattle.refusal.specs.Number.{done}
 use Rattle.refusal.specs.Judge.{Rule, unless, judge}
 use Rattle.refusal.specs.declared.Refusal.the-variants.{ShapeLimits, Attribute, LayoutRule}
 use Rattle.refusal.specs.declared.Verdict.{Verdict}
@@ -19,20 +18,17 @@ use Rattle.shape.specs.declared.Shape.{Shape}
 use Rattle.tiling.specs.Tile.{maxEntries, maxEntry, maxTiles, tilesFrom, reversed, padded}
 use Rattle.layout.specs.Layout.{minorToMajor, lensOf, tilesOf, areTiles, goodLayout, paddedOf}
 use Rattle.layout.specs.declared.Layout.{Layout}
-use Rattle.plan.specs.Value.{far, hasPlan}
-use Rattle.plan.specs.Answer.{spread}
-use Rattle.plan.proofs.Alike.{Alike, cost-alike, best-alike}
-use Rattle.plan.proofs.Theorems.{best-found}
+use Rattle.tree_plan.specs.Answer.{treeAnswer}
+use Rattle.tree_plan.proofs.Alike.{Alike, answer-alike}
 use Rattle.route.specs.Same.{sameList, sameTiles, sameLayout, moveOf}
-use Rattle.route.specs.Stations.{stationAt, layoutAt, goodCount, goodLayouts, goodSizes, countsKept, layoutsKept, sizesKept, netOf}
+use Rattle.route.specs.Stations.{stationAt, layoutAt, goodCount, goodParent, goodLayouts, goodSizes, countsKept, parentsKept, layoutsKept, sizesKept, treeOf}
 use Rattle.route.specs.LayoutRepeats.{repeatRule}
-use Rattle.route.specs.Route.{goodLimits, recordsRead, routeRules, breaksNoRule, routeOf}
+use Rattle.route.specs.Route.{goodLimits, recordsRead, numbersKept, routeRules, breaksNoRule, routeOf}
 use Rattle.route.specs.Loading.{firstRefusal, sizeRules}
 use Rattle.route.specs.declared.Station.{Station}
-use Rattle.route.proofs.Entering.{counts-low}
 use Rattle.route.proofs.LayoutRepeats.{rule-alike}
 use Rattle.route.proofs.Judging.{rule-first, unbroken}
-use Rattle.route.proofs.Answering.{answer-refused, answer-none, answer-values}
+use Rattle.route.proofs.Answering.{answer-refused, answer-planned, tree-formed, tree-small}
 
 -- two layouts that agree up to their counts
 pub record LayoutsAgree (a b : Layout) : Type 0 where
@@ -42,9 +38,10 @@ pub record LayoutsAgree (a b : Layout) : Type 0 where
   pub lens : lensOf a ≡ lensOf b
   pub entries : tilesOf a ≡ tilesOf b
 
--- two lists of stations that agree up to their counts
+-- two lists of stations that agree up to their counts; the first station's parent may be any
 pub record StationsAgree (xs ys : List Station) : Type 0 where
   pub long : length xs ≡ length ys
+  pub parent : (i : ℕ) → stationAt xs (suc i) .parent ≡ stationAt ys (suc i) .parent
   pub count : (i : ℕ) → stationAt xs i .count ≡ stationAt ys i .count
   pub layouts : (i a : ℕ) → a < stationAt xs i .count → LayoutsAgree (layoutAt (stationAt xs i) a) (layoutAt (stationAt ys i) a)
 
@@ -91,6 +88,17 @@ module _ (s : Shape) (xs ys : List Station) (A : StationsAgree xs ys) where
       every-agree _ _ (stationAt xs i .count) (λ a l. ap (λ (p : ℕ). leb p maxCount) (padded-agree s _ _ (A .layouts i a l)))
       ∙ ap (every (λ (a : ℕ). leb (paddedOf s (layoutAt (stationAt ys i) a)) maxCount)) (A .count i)
 
+  parent-agree : (i : ℕ) → goodParent i (stationAt xs i) ≡ goodParent i (stationAt ys i)
+  parent-agree zero = refl
+  parent-agree (suc i) = ap (λ (p : ℕ). ltb p (suc i)) (A .parent i)
+
+  numbers-agree : (n : ℕ) → numbersKept xs n ≡ numbersKept ys n
+  unfolding numbersKept countsKept parentsKept
+  numbers-agree n =
+      ap₂ _&&_
+      (every-agree (λ (i : ℕ). goodCount (stationAt xs i)) (λ (i : ℕ). goodCount (stationAt ys i)) n (λ i l. ap (λ (c : ℕ). leb 1 c && leb c 8) (A .count i)))
+      (every-agree (λ (i : ℕ). goodParent i (stationAt xs i)) (λ (i : ℕ). goodParent i (stationAt ys i)) n (λ i l. parent-agree i))
+
   repeats-agree : (n : ℕ) (zs : List Rule) → judge (repeatRule xs n ∷ zs) ≡ judge (repeatRule ys n ∷ zs)
   repeats-agree n zs =
       sym (rule-first (repeatRule xs n) zs)
@@ -100,51 +108,49 @@ module _ (s : Shape) (xs ys : List Station) (A : StationsAgree xs ys) where
 
   module _ (number cells moves : ℕ) where
     rules-agree : judge (routeRules s xs number cells moves) ≡ judge (routeRules s ys number cells moves)
-    unfolding countsKept layoutsKept sizesKept
+    unfolding layoutsKept sizesKept
     rules-agree =
         rw (
           A .long,
-          every-agree (λ (i : ℕ). goodCount (stationAt xs i)) (λ (i : ℕ). goodCount (stationAt ys i)) (min number (length ys)) (λ i l. ap (λ (c : ℕ). leb 1 c && leb c 8) (A .count i)),
+          numbers-agree (min number (length ys)),
           every-agree (λ (i : ℕ). goodLayouts (s .rank) (stationAt xs i)) (λ (i : ℕ). goodLayouts (s .rank) (stationAt ys i)) (min number (length ys)) (λ i l. layouts-agree i),
           every-agree (λ (i : ℕ). goodSizes s (stationAt xs i)) (λ (i : ℕ). goodSizes s (stationAt ys i)) (min number (length ys)) (λ i l. sizes-agree i),
         )
-        (ap (λ (v : Verdict). unless (goodShape s) ShapeLimits (unless (goodLimits number cells moves && countsKept ys (recordsRead ys number)) Attribute (unless (layoutsKept s ys (recordsRead ys number)) LayoutRule v)))
+        (ap (λ (v : Verdict). unless (goodShape s) ShapeLimits (unless (goodLimits number cells moves && numbersKept ys (recordsRead ys number)) Attribute (unless (layoutsKept s ys (recordsRead ys number)) LayoutRule v)))
         (repeats-agree (recordsRead ys number) (sizeRules (sizesKept s ys (recordsRead ys number)) (length ys) number)))
 
     module _ (clean : breaksNoRule s xs number cells moves) where
-      alike : Alike (netOf s xs number cells) (netOf s ys number cells)
+      clean2 : breaksNoRule s ys number cells moves
+      clean2 = sym rules-agree ∙ clean
+
+      alike : Alike (treeOf s xs number cells) (treeOf s ys number cells)
       alike =
           record {
             stations = refl;
             cells = refl;
-            some = λ i l. counts-low xs number (unbroken s xs number cells moves clean .counts) i l .0;
+            parent = λ i l. A .parent i;
             count = λ i l. A .count i;
             size = λ i a l g. padded-agree s _ _ (A .layouts i a g);
-            moved = λ i a b l g f. move-agree _ _ _ _ (A .layouts i a g) (A .layouts (i + 1) b f);
+            moved =
+                λ i a b l g f.
+                move-agree _ _ _ _ (A .layouts (stationAt xs (suc i) .parent) a g) (A .layouts (suc i) b f)
+                ∙ ap (λ (k : ℕ). moveOf (layoutAt (stationAt ys k) a) (layoutAt (stationAt ys (suc i)) b)) (A .parent i);
           }
 
+      same : treeAnswer (treeOf s xs number cells) moves ≡ treeAnswer (treeOf s ys number cells) moves
+      same =
+          let U = unbroken s xs number cells moves clean in
+          let U2 = unbroken s ys number cells moves clean2 in
+          answer-alike _ _ (tree-formed s xs number cells moves U) (tree-formed s ys number cells moves U2) alike
+          (tree-small s xs number cells moves U)
+          (tree-small s ys number cells moves U2)
+          moves
+
       done-agree : routeOf s xs number cells moves ≡ routeOf s ys number cells moves
-      done-agree = go (hasPlan (netOf s xs number cells) moves) refl
-        where
-          clean2 : breaksNoRule s ys number cells moves
-          clean2 = sym rules-agree ∙ clean
+      done-agree =
+          sym (answer-planned s xs number cells moves clean _ refl) ∙ answer-planned s ys number cells moves clean2 _ same
 
-          has : hasPlan (netOf s xs number cells) moves ≡ hasPlan (netOf s ys number cells) moves
-          has = ap (λ (v : ℕ). ltb v far) (cost-alike _ _ alike moves)
-
-          go : (b : Bool) → hasPlan (netOf s xs number cells) moves ≡ b → routeOf s xs number cells moves ≡ routeOf s ys number cells moves
-          go false e = sym (answer-none s xs number cells moves clean e) ∙ answer-none s ys number cells moves clean2 (sym has ∙ e)
-          go true e =
-              let e2 = sym has ∙ e in
-              sym (answer-values s xs number cells moves clean e)
-              ∙ ap done
-              (ap₂ (λ (l : List ℕ) (t : ℕ). spread number l ++ (t ∷ [])) (best-alike _ _ alike moves)
-              (sym (best-found (netOf s xs number cells) moves (ltb-true _ _ e) .total)
-              ∙ cost-alike _ _ alike moves
-              ∙ best-found (netOf s ys number cells) moves (ltb-true _ _ e2) .total))
-              ∙ answer-values s ys number cells moves clean2 e2
-
-    -- What a record holds past its counts alters no answer and no refusal.
+    -- one answer, refused or not
     pub past-counts : routeOf s xs number cells moves ≡ routeOf s ys number cells moves
     past-counts = go (judge (routeRules s xs number cells moves)) refl
       where

@@ -16,10 +16,10 @@ use Rattle.refusal.specs.declared.Verdict.the-variants.{Done, Refused}
 use Rattle.shape.specs.Shape.{goodShape}
 use Rattle.shape.specs.declared.Shape.{Shape}
 use Rattle.shape.specs.Repeats.{earlierIn}
-use Rattle.plan.specs.Value.{hasPlan}
-use Rattle.route.specs.Stations.{stationAt, countsKept, layoutsKept, sizesKept, netOf}
+use Rattle.tree_plan.specs.Weight.{hasPlan}
+use Rattle.route.specs.Stations.{stationAt, layoutsKept, sizesKept, treeOf}
 use Rattle.route.specs.LayoutRepeats.{sameAt, repeatStation, repeatRule, FirstLayoutRepeat}
-use Rattle.route.specs.Route.{goodLimits, recordsRead, routeRules, routeZeros, routeValues, routeOf}
+use Rattle.route.specs.Route.{goodLimits, recordsRead, numbersKept, routeRules, routeZeros, routeValues, routeOf}
 use Rattle.route.specs.Loading.{firstRefusal, sizeRules}
 use Rattle.route.specs.declared.Station.{Station}
 use Rattle.route.proofs.LayoutRepeats.{rule-named, named-first}
@@ -34,7 +34,7 @@ module _ (s : Shape) (ys : List Station) (number cells moves : ℕ) where
   pub answer-repeat :
       goodShape s ≡ true →
       goodLimits number cells moves ≡ true →
-      countsKept ys n ≡ true →
+      numbersKept ys n ≡ true →
       layoutsKept s ys n ≡ true →
       {i e l : ℕ} →
       FirstLayoutRepeat ys n i e l →
@@ -66,13 +66,13 @@ module _ (s : Shape) (ys : List Station) (number cells moves : ℕ) where
     abbrev after : Verdict
     after =
         unless (sizesKept s ys n) PaddedSize
-        (unless (leb number (length ys)) ShortBuffer (unless (hasPlan (netOf s ys number cells) moves) NoPlan Done))
+        (unless (leb number (length ys)) ShortBuffer (unless (hasPlan (treeOf s ys number cells) moves) NoPlan Done))
 
     none-after : {A : Type 0} → Names after → A
     none-after p =
         let p2 = passed (sizesKept s ys n) PaddedSize _ refl p .1 in
         let p3 = passed (leb number (length ys)) ShortBuffer _ refl p2 .1 in
-        none-named (passed (hasPlan (netOf s ys number cells) moves) NoPlan Done refl p3 .1)
+        none-named (passed (hasPlan (treeOf s ys number cells) moves) NoPlan Done refl p3 .1)
 
     named : Names (unless (repeatRule ys n .kept) (repeatRule ys n .otherwise) after) → FirstLayoutRepeat ys n i e l
     named q = go (repeatRule ys n .kept) refl q
@@ -93,17 +93,17 @@ module _ (s : Shape) (ys : List Station) (number cells moves : ℕ) where
         routeOf s ys number cells moves .places ≡ i ∷ e ∷ l ∷ [] →
         (goodShape s ≡ true)
         × (goodLimits number cells moves ≡ true)
-        × (countsKept ys n ≡ true)
+        × (numbersKept ys n ≡ true)
         × (layoutsKept s ys n ≡ true)
         × FirstLayoutRepeat ys n i e l
     unfolding routeOf
     repeat-of q =
         let p1 = passed (goodShape s) ShapeLimits _ refl q in
-        let p2 = passed (goodLimits number cells moves && countsKept ys n) Attribute _ refl (p1 .1) in
+        let p2 = passed (goodLimits number cells moves && numbersKept ys n) Attribute _ refl (p1 .1) in
         let p3 = passed (layoutsKept s ys n) LayoutRule _ refl (p2 .1) in (
           p1 .0,
-          and-left (goodLimits number cells moves) (countsKept ys n) (p2 .0),
-          and-right (goodLimits number cells moves) (countsKept ys n) (p2 .0),
+          and-left (goodLimits number cells moves) (numbersKept ys n) (p2 .0),
+          and-right (goodLimits number cells moves) (numbersKept ys n) (p2 .0),
           p3 .0,
           named (p3 .1),
         )

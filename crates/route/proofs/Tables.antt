@@ -23,6 +23,12 @@ pub and-keep : (a : Bool) → (a && true) ≡ a
 and-keep true = refl
 and-keep false = refl
 
+-- four tests, two and two
+pub and-both : (a b c d : Bool) → ((a && b) && (c && d)) ≡ ((a && c) && (b && d))
+and-both true b true d = refl
+and-both true b false d = and-false b refl
+and-both false b c d = refl
+
 -- one number more
 pub every-next : (f : ℕ → Bool) (n : ℕ) → every f (n + 1) ≡ (every f n && f n)
 every-next f n = rw add-one refl
@@ -40,6 +46,17 @@ module _ {all : Bool} (before this : Bool) (e : all ≡ (before && this)) where
 -- a number up to n is n or below it
 pub upto : (k n : ℕ) → k < n + 1 → (k ≡ n) ⊎ (k < n)
 upto k n l = eq-or-lt-of-le (omega arith)
+
+-- two numbers are the same or not
+pub same-or-not : (k n : ℕ) → (k ≡ n) ⊎ (k ≡ n → ⊥)
+same-or-not k n =
+    ⊎-elim
+    (λ (l : k ≤ n). ⊎-elim (λ (e : k ≡ n). inl e) (λ (m : k < n). inr (λ e. omega arith)) (eq-or-lt-of-le l))
+    (λ (m : n < k). inr (λ e. omega arith))
+    (le-or-lt k n)
+
+pub below-of : (k n : ℕ) → k < n + 1 → (k ≡ n → ⊥) → k < n
+below-of k n l z = ⊎-elim (λ (e : k ≡ n). absurd (z e)) (λ (m : k < n). m) (upto k n l)
 
 -- nothing is filled yet
 pub filled-start : (xs : List ℕ) (at : ℕ) (f : ℕ → ℕ) → Filled xs xs at 0 f

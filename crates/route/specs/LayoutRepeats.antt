@@ -32,7 +32,8 @@ repeatStation ys n = first (λ (i : ℕ). not (allDifferent (stationAt ys i))) n
 abbrev pub repeatRule : List Station → ℕ → Rule
 repeatRule ys n = rule (leb n (repeatStation ys n)) (repeatIn (stationAt ys (repeatStation ys n)) (repeatStation ys n))
 
--- the same as a fact: station i is the first of n whose list holds a layout twice, and the places e and l are its first repeat
+-- the same as a fact: station i is the first of n whose list holds a layout twice, and the places e and l are its first
+-- repeat
 pub record FirstLayoutRepeat (ys : List Station) (n i e l : ℕ) : Type 0 where
   pub read : i < n
   pub here : FirstRepeat (sameAt (stationAt ys i)) (stationAt ys i .count) e l

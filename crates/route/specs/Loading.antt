@@ -1,5 +1,5 @@
 -- What is kept of the stations read so far. Assumes nothing.
-use Prim.Native.Nat.{ℕ, _+_, _*_, _/_, _%_, _^_, _≤_, _<_, min}
+use Prim.Native.Nat.{ℕ, _+_, _*_, _/_, _%_, _≤_, _<_, min}
 use mathlib.Core.Path.{_≡_}
 use mathlib.Core.Bool.{Bool, true, _&&_, cond}
 use mathlib.Core.Logic.{_⊎_}
@@ -16,9 +16,9 @@ use Rattle.shape.specs.declared.Shape.{Shape}
 use Rattle.layout.specs.Layout.{goodLayout, paddedOf}
 use Rattle.plan.specs.Answer.{maxStations}
 use Rattle.route.specs.Same.{moveOf}
-use Rattle.route.specs.Stations.{maxLayouts, stationAt, layoutAt, countsKept, layoutsKept, sizesKept}
+use Rattle.route.specs.Stations.{maxLayouts, stationAt, layoutAt, layoutsKept, sizesKept}
 use Rattle.route.specs.LayoutRepeats.{allDifferent, repeatIn, repeatRule}
-use Rattle.route.specs.Route.{goodLimits, routeRules, routeAnswer, routeOf}
+use Rattle.route.specs.Route.{goodLimits, numbersKept, routeRules, routeAnswer, routeOf}
 use Rattle.route.specs.declared.Route.{Route}
 use Rattle.route.specs.declared.Station.{Station}
 use Rattle.route.specs.declared.load.Loaded.{Loaded}
@@ -41,11 +41,15 @@ pub record Filled (before after : List ℕ) (at n : ℕ) (f : ℕ → ℕ) : Typ
   pub inside : (t : ℕ) → t < n → getD after (at + t) 0 ≡ f t
   pub outside : (k : ℕ) → (k < at) ⊎ (at + n ≤ k) → getD after k 0 ≡ getD before k 0
 
+-- the station that feeds station i: its parent where that is an earlier one, else station i itself
+abbrev pub feeding : ℕ → Station → ℕ
+feeding i x = cond (ltb (x .parent) i) (x .parent) i
+
 -- a padded size, exact up to 2^40 and 2^40 + 1 for anything above
 abbrev pub cappedSize : Shape → Station → ℕ → ℕ
 cappedSize s x a = min (paddedOf s (layoutAt x a)) (maxCount + 1)
 
--- the moves from place t / 8 of a station to place t % 8 of the next, and 0 past their counts
+-- the moves from place t / 8 of a station to place t % 8 of another, and 0 past their counts
 abbrev pub moveAt : Station → Station → ℕ → ℕ
 moveAt x y t =
     cond (ltb (t / maxLayouts) (x .count) && ltb (t % maxLayouts) (y .count)) (moveOf (layoutAt x (t / maxLayouts)) (layoutAt y (t % maxLayouts))) 0
@@ -61,44 +65,39 @@ stationRepeat x i = unless (allDifferent x) (repeatIn x i) Done
 
 -- the tables hold what the first n stations give
 pub record Entered (s : Shape) (ys : List Station) (n : ℕ) (h : Loaded) : Type 0 where
+  pub parents : (i : ℕ) → i + 1 < n → getD (h .parents) (i + 1) 0 ≡ stationAt ys (i + 1) .parent
   pub counts : (i : ℕ) → i < n → getD (h .counts) i 0 ≡ stationAt ys i .count
   pub sizes : (i a : ℕ) → i < n → a < stationAt ys i .count → getD (h .sizes) (i * 8 + a) 0 ≡ cappedSize s (stationAt ys i) a
   pub moved :
       (i a b : ℕ) →
-      i + 1 < n →
-      a < stationAt ys i .count →
-      b < stationAt ys (i + 1) .count →
-      getD (h .moved) ((i * 8 + a) * 8 + b) 0 ≡ moveOf (layoutAt (stationAt ys i) a) (layoutAt (stationAt ys (i + 1)) b)
-  pub last : (j : ℕ) → n ≡ j + 1 → h .last ≡ stationAt ys j
+      i < n →
+      a < stationAt ys (feeding i (stationAt ys i)) .count →
+      b < stationAt ys i .count →
+      getD (h .moved) ((i * 8 + a) * 8 + b) 0
+      ≡ moveOf (layoutAt (stationAt ys (feeding i (stationAt ys i))) a) (layoutAt (stationAt ys i) b)
 
 -- the tables' numbers, whatever the stations were
-pub record Sound (rank : ℕ) (h : Loaded) : Type 0 where
-  pub last : Fit rank (h .last)
+pub record Sound (h : Loaded) : Type 0 where
+  pub parents : (i : ℕ) → getD (h .parents) (i + 1) 0 < i + 1
   pub counts : (i : ℕ) → getD (h .counts) i 0 ≤ maxLayouts
   pub sizes : (k : ℕ) → getD (h .sizes) k 0 ≤ maxCount + 1
   pub ones : (k : ℕ) → getD (h .moved) k 0 ≤ 1
-  pub start : (b : ℕ) → getD (h .moved) (4032 + b) 0 ≡ 0
 
--- the moves of the first stations, with those to station i
-pub record MovesEntered (h : Loaded) (i : ℕ) (x : Station) (r : List ℕ) : Type 0 where
-  pub long : length r ≡ length (h .moved)
-  pub first : i ≡ 0 → r ≡ h .moved
-  pub more : (j : ℕ) → i ≡ j + 1 → Filled (h .moved) r (j * 64) (maxLayouts * maxLayouts) (moveAt (h .last) x)
-
--- what reading station i asks
-pub record Ready (s : Shape) (h : Loaded) (i : ℕ) : Type 0 where
+-- what reading station i, which `from` feeds, asks: as long as all stations keep their rules 2 and 3, so does `from`
+pub record Ready (s : Shape) (h : Loaded) (i : ℕ) (x from : Station) : Type 0 where
   pub shape : goodShape s ≡ true
   pub few : i < maxStations
-  pub sound : Sound (s .rank) h
+  pub sound : Sound h
+  pub fit : h .«numbers_kept» ≡ true → h .«layouts_kept» ≡ true → Fit (s .rank) x → Fit (s .rank) from
 
 -- the first n stations are read
 pub record Holds (s : Shape) (ys : List Station) (n : ℕ) (h : Loaded) : Type 0 where
-  pub sound : Sound (s .rank) h
-  pub counts : h .«counts_kept» ≡ countsKept ys n
-  pub layouts : countsKept ys n ≡ true → h .«layouts_kept» ≡ layoutsKept s ys n
-  pub repeat : countsKept ys n ≡ true → layoutsKept s ys n ≡ true → h .repeat ≡ judge (repeatRule ys n ∷ [])
-  pub sizes : countsKept ys n ≡ true → layoutsKept s ys n ≡ true → h .«sizes_kept» ≡ sizesKept s ys n
-  pub entered : countsKept ys n ≡ true → layoutsKept s ys n ≡ true → Entered s ys n h
+  pub sound : Sound h
+  pub numbers : h .«numbers_kept» ≡ numbersKept ys n
+  pub layouts : numbersKept ys n ≡ true → h .«layouts_kept» ≡ layoutsKept s ys n
+  pub repeat : numbersKept ys n ≡ true → layoutsKept s ys n ≡ true → h .repeat ≡ judge (repeatRule ys n ∷ [])
+  pub sizes : numbersKept ys n ≡ true → layoutsKept s ys n ≡ true → h .«sizes_kept» ≡ sizesKept s ys n
+  pub entered : numbersKept ys n ≡ true → layoutsKept s ys n ≡ true → Entered s ys n h
 
 -- nothing is read yet
 pub record Starts (h : Loaded) : Type 0 where
@@ -111,9 +110,10 @@ pub record Loads (s : Shape) (ys : List Station) (n : ℕ) (h : Loaded) : Type 0
   pub shape : 0 < n → goodShape s ≡ true
   pub none : Holds s ys 0 h
 
--- the station x is read after the first i
-pub record Adds (s : Shape) (h : Loaded) (i : ℕ) (x : Station) (r : Loaded) : Type 0 where
-  pub more : (ys : List Station) → Holds s ys i h → stationAt ys i ≡ x → Holds s ys (i + 1) r
+-- the station x, which `from` feeds, is read after the first i
+pub record Adds (s : Shape) (h : Loaded) (i : ℕ) (x from : Station) (r : Loaded) : Type 0 where
+  pub more :
+      (ys : List Station) → Holds s ys i h → stationAt ys i ≡ x → stationAt ys (feeding i x) ≡ from → Holds s ys (i + 1) r
 
 -- the rules 4 and 9: whether the padded sizes keep their rule, and the length of the list
 abbrev pub sizeRules : Bool → ℕ → ℕ → List Rule

@@ -1,4 +1,5 @@
--- What the planning call answers: the rules in the order of their numbers, and the best plan with its cost. Assumes nothing.
+-- What the planning call answers: the rules in the order of their numbers, and the best plan with its cost. Assumes
+-- nothing.
 use Prim.Native.Nat.{ℕ, _+_, min}
 use mathlib.Core.Path.{_≡_}
 use mathlib.Core.Bool.{Bool, _&&_}
@@ -13,11 +14,11 @@ use Rattle.refusal.specs.declared.Refusal.the-variants.{ShapeLimits, Attribute,
 use Rattle.refusal.specs.declared.Verdict.the-variants.{Done, Refused}
 use Rattle.shape.specs.Shape.{goodShape}
 use Rattle.shape.specs.declared.Shape.{Shape}
-use Rattle.plan.specs.Net.{planCost}
-use Rattle.plan.specs.Value.{bestPlan, hasPlan}
 use Rattle.plan.specs.Answer.{maxStations, spread}
+use Rattle.tree_plan.specs.Tree.{planCost}
+use Rattle.tree_plan.specs.Weight.{bestPlan, hasPlan}
 use Rattle.route.specs.LayoutRepeats.{repeatRule}
-use Rattle.route.specs.Stations.{countsKept, layoutsKept, sizesKept, netOf}
+use Rattle.route.specs.Stations.{countsKept, parentsKept, layoutsKept, sizesKept, treeOf}
 use Rattle.route.specs.declared.Station.{Station}
 use Rattle.route.specs.declared.Route.{Route}
 
@@ -34,11 +35,15 @@ goodLimits number cells moves =
 abbrev pub recordsRead : List Station → ℕ → ℕ
 recordsRead ys number = min number (length ys)
 
+-- of the first n records, every count of layouts and every parent keeps its rule
+unfoldable pub numbersKept : List Station → ℕ → Bool
+numbersKept ys n = countsKept ys n && parentsKept ys n
+
 -- the rules 1 to 9
 abbrev pub routeRules : Shape → List Station → ℕ → ℕ → ℕ → List Rule
 routeRules s ys number cells moves =
     rule (goodShape s) ShapeLimits
-    ∷ rule (goodLimits number cells moves && countsKept ys (recordsRead ys number)) Attribute
+    ∷ rule (goodLimits number cells moves && numbersKept ys (recordsRead ys number)) Attribute
     ∷ rule (layoutsKept s ys (recordsRead ys number)) LayoutRule
     ∷ repeatRule ys (recordsRead ys number)
     ∷ rule (sizesKept s ys (recordsRead ys number)) PaddedSize
@@ -51,11 +56,11 @@ breaksNoRule s ys number cells moves = judge (routeRules s ys number cells moves
 
 -- rule 10: a plan is admitted
 abbrev pub planRule : Shape → List Station → ℕ → ℕ → ℕ → Rule
-planRule s ys number cells moves = rule (hasPlan (netOf s ys number cells) moves) NoPlan
+planRule s ys number cells moves = rule (hasPlan (treeOf s ys number cells) moves) NoPlan
 
 -- the plan of the route
 abbrev pub routePlan : Shape → List Station → ℕ → ℕ → ℕ → List ℕ
-routePlan s ys number cells moves = bestPlan (netOf s ys number cells) moves
+routePlan s ys number cells moves = bestPlan (treeOf s ys number cells) moves
 
 -- the answer's values: 64 places, 0 in the unused ones, and the total
 abbrev pub routeZeros : List ℕ
@@ -64,7 +69,7 @@ routeZeros = replicate (maxStations + 1) 0
 abbrev pub routeValues : Shape → List Station → ℕ → ℕ → ℕ → List ℕ
 routeValues s ys number cells moves =
     spread number (routePlan s ys number cells moves)
-    ++ (planCost (netOf s ys number cells) (routePlan s ys number cells moves) ∷ [])
+    ++ (planCost (treeOf s ys number cells) (routePlan s ys number cells moves) ∷ [])
 
 unfoldable pub routeOf : Shape → List Station → ℕ → ℕ → ℕ → Answer ℕ
 routeOf s ys number cells moves =

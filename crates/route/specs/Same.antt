@@ -23,6 +23,6 @@ sameTiles xs ys = sameBy sameList xs ys
 unfoldable pub sameLayout : Layout → Layout → Bool
 sameLayout a b = sameList (minorToMajor a) (minorToMajor b) && sameTiles (tilesOf a) (tilesOf b)
 
--- neighbours move when their layouts differ as written
+-- a station and its parent move when their layouts differ as written
 abbrev pub moveOf : Layout → Layout → ℕ
 moveOf a b = cond (sameLayout a b) 0 1

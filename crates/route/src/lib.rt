@@ -1,15 +1,15 @@
-// A route through stations: the cheapest plan of layouts within a cell limit and a limit on moves.
+// A route through stations that form a tree: the cheapest plan of layouts within a cell limit and a limit on moves.
 mod load;
 mod repeats;
 mod same;
 
 use layout::Layout;
 use load::Loaded;
-use plan::Tables;
 use refusal::Refusal;
 use refusal::Verdict;
 use repeats::first_refusal;
 use shape::Shape;
+use tree_planner::TreeTables;
 ghost use mathlib.Core.Path.{_≡_};
 ghost use Prim.Native.Nat.{min};
 ghost use lib.ListN.{take};
@@ -25,8 +25,10 @@ pub const MAX_LAYOUTS: usize = 8;
 
 pub const MAX_MOVES: usize = 63;
 
-// The layouts that a station accepts, the first count of them. What stands past them is not read.
+// The earlier station that feeds a station, and the layouts that it accepts, the first count of them. What stands past
+// them, and the first station's parent, is not read.
 pub struct Station {
+    pub parent: usize,
     pub count: usize,
     pub layouts: [Layout; 8],
 }
@@ -87,7 +89,7 @@ fn judge_route(
     if !good_limits(number, cells, moves) {
         return Verdict::Refused(Refusal::Attribute);
     }
-    if !loaded.counts_kept {
+    if !loaded.numbers_kept {
         return Verdict::Refused(Refusal::Attribute);
     }
     if !loaded.layouts_kept {
@@ -117,21 +119,23 @@ fn finish(
     cells: u64,
     moves: usize,
 ) -> Route
-    requires { ⌜ Sound (shape .rank) loaded ⌝ }
+    requires { ⌜ Sound loaded ⌝ }
     ensures { λ r. ⌜ Answers shape loaded len number cells moves r ⌝ }
 {
     match judge_route(shape, loaded, len, number, cells, moves) {
         Verdict::Refused(r) => no_route(r),
         Verdict::Done => {
+            let parents = loaded.parents;
             let counts = loaded.counts;
             let sizes = loaded.sizes;
             let moved = loaded.moved;
-            let tables = Tables {
+            let tables = TreeTables {
+                parents,
                 counts,
                 sizes,
                 moved,
             };
-            let p = plan::best_plan(tables, number, cells, moves);
+            let p = tree_planner::best_tree_plan(tables, number, cells, moves);
             if p.found {
                 let places = p.places;
                 Route {

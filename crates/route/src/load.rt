@@ -3,59 +3,48 @@ use super::Station;
 use super::repeats::first_refusal;
 use super::repeats::station_repeat;
 use super::same;
-use layout::Layout;
 use refusal::Verdict;
 use shape::Shape;
 ghost use mathlib.Core.Path.{_≡_};
-ghost use mathlib.Core.Bool.{true};
+ghost use mathlib.Core.Bool.{true, _&&_};
 ghost use Prim.Native.Nat.{ℕ, _+_, _-_, _*_, _<_, _≤_};
 ghost use lib.ListN.{length};
 ghost use Rattle.shape.specs.Shape.{goodShape};
 ghost use Rattle.plan.specs.Answer.{maxStations};
-ghost use Rattle.route.specs.Stations.{maxLayouts, stationAt, goodCount, goodLayouts, goodSizes};
-ghost use Rattle.route.specs.Loading.{Reads, Fit, Filled, cappedSize, moveAt, Sound, Ready, MovesEntered, Starts, Adds, Loads, Holds};
+ghost use Rattle.route.specs.Stations.{maxLayouts, stationAt, goodCount, goodParent, goodLayouts, goodSizes};
+ghost use Rattle.route.specs.Loading.{Reads, Fit, Filled, feeding, cappedSize, moveAt, Sound, Ready, Starts, Adds, Loads, Holds};
 
-// Whether the counts, the layouts and the padded sizes keep their rules; the first layout that stands twice in a list; the
-// planner's tables; and the last station read.
+// Whether the numbers (counts and parents), the layouts and the padded sizes keep their rules; the first layout that
+// stands twice in a list; and the planner's tables.
 pub struct Loaded {
-    pub counts_kept: bool,
+    pub numbers_kept: bool,
     pub layouts_kept: bool,
     pub repeat: Verdict,
     pub sizes_kept: bool,
+    pub parents: [usize; 64],
     pub counts: [usize; 64],
     pub sizes: [u64; 512],
     pub moved: [usize; 4096],
-    pub last: Station,
 }
 
 // Nothing is read yet.
 pub fn empty() -> Loaded
     ensures { λ r. ⌜ Starts r ⌝ }
 {
-    let none = Layout {
-        rank: 0,
-        minor_to_major: [0u64; 6],
-        tiles: 0,
-        tile_len: [0usize; 3],
-        tile: [0u64; 18],
-    };
-    let last = Station {
-        count: 0,
-        layouts: [none; 8],
-    };
     Loaded {
-        counts_kept: true,
+        numbers_kept: true,
         layouts_kept: true,
         repeat: Verdict::Done,
         sizes_kept: true,
+        parents: [0usize; 64],
         counts: [0usize; 64],
         sizes: [0u64; 512],
         moved: [0usize; 4096],
-        last,
     }
 }
 
-// How many records to read of a list of length len: none where the shape breaks its limits or there are too many stations.
+// How many records to read of a list of length len: none where the shape breaks its limits or there are too many
+// stations.
 pub fn records(shape: Shape, number: usize, len: usize) -> usize
     ensures { λ r. ⌜ Reads shape number len r ⌝ }
 {
@@ -68,6 +57,13 @@ pub fn records(shape: Shape, number: usize, len: usize) -> usize
     if number < len { number } else { len }
 }
 
+// Both hold.
+fn both(a: bool, b: bool) -> bool
+    ensures { λ r. ⌜ r ≡ (a && b) ⌝ }
+{
+    if a { b } else { false }
+}
+
 // The station has 1 to 8 layouts.
 fn good_count(station: Station) -> bool
     ensures { λ r. ⌜ r ≡ goodCount station ⌝ }
@@ -77,6 +73,24 @@ fn good_count(station: Station) -> bool
         return false;
     }
     count <= super::MAX_LAYOUTS
+}
+
+// Station i is the first, or its parent is an earlier station.
+fn good_parent(i: usize, station: Station) -> bool
+    ensures { λ r. ⌜ r ≡ goodParent i station ⌝ }
+{
+    if i == 0 {
+        return true;
+    }
+    station.parent < i
+}
+
+// The station that feeds station i: its parent where that is an earlier one, else station i itself.
+fn feeding_station(i: usize, station: Station) -> usize
+    ensures { λ r. ⌜ r ≡ feeding i station ⌝ }
+{
+    let parent = station.parent;
+    if parent < i { parent } else { i }
 }
 
 // Every layout of the station keeps its rule.
@@ -119,7 +133,7 @@ fn enter_sizes(shape: Shape, station: Station, at: usize, sizes: &mut [u64]) -> 
     kept
 }
 
-// The moves from place t / 8 of a station to place t % 8 of the next, and 0 past their counts.
+// The moves from place t / 8 of a station to place t % 8 of another, and 0 past their counts.
 fn move_at(rank: usize, from: Station, to: Station, t: usize) -> usize
     requires { ⌜ t < maxLayouts * maxLayouts ⌝ }
     requires { ⌜ Fit rank from ⌝ }
@@ -143,7 +157,7 @@ fn move_at(rank: usize, from: Station, to: Station, t: usize) -> usize
     }
 }
 
-// Enters the moves from a station to the next from entry at on.
+// Enters the moves from a station to one that it feeds from entry at on.
 fn enter_moves(rank: usize, from: Station, to: Station, at: usize, moved: &mut [usize])
     requires { ⌜ at + maxLayouts * maxLayouts ≤ length (now moved) ⌝ }
     requires { ⌜ Fit rank from ⌝ }
@@ -158,67 +172,56 @@ fn enter_moves(rank: usize, from: Station, to: Station, at: usize, moved: &mut [
     }
 }
 
-// The moves from the last station to this one, station i, beside those before it.
-fn with_moves(rank: usize, loaded: Loaded, i: usize, station: Station) -> [usize; 4096]
-    requires { ⌜ i < maxStations ⌝ }
-    requires { ⌜ Fit rank (loaded .last) ⌝ }
-    requires { ⌜ Fit rank station ⌝ }
-    ensures { λ r. ⌜ MovesEntered loaded i station r ⌝ }
-{
-    let mut moved = loaded.moved;
-    if i == 0 {
-        return moved;
-    }
-    let last = loaded.last;
-    enter_moves(rank, last, station, (i - 1) * 64, &mut moved);
-    moved
-}
-
-// The station, which keeps its rules 2 and 3, is station i.
-fn enter(shape: Shape, loaded: Loaded, i: usize, station: Station) -> Loaded
+// The station, which keeps its rules 2 and 3 as `from` does that feeds it, is station i.
+fn enter(shape: Shape, loaded: Loaded, i: usize, station: Station, from: Station) -> Loaded
     requires { ⌜ (goodShape shape ≡ true) × (i < maxStations) ⌝ }
-    requires { ⌜ Sound (shape .rank) loaded ⌝ }
-    requires { ⌜ (goodCount station ≡ true) × (goodLayouts (shape .rank) station ≡ true) ⌝ }
-    ensures { λ r. ⌜ Adds shape loaded i station r ⌝ }
+    requires { ⌜ Sound loaded ⌝ }
+    requires { ⌜ ((goodCount station && goodParent i station) ≡ true) × (goodLayouts (shape .rank) station ≡ true) ⌝ }
+    requires { ⌜ Fit (shape .rank) from ⌝ }
+    ensures { λ r. ⌜ Adds shape loaded i station from r ⌝ }
 {
     let before = loaded.repeat;
     let repeat = first_refusal(before, station_repeat(shape.rank, station, i));
-    let moved = with_moves(shape.rank, loaded, i, station);
+    let mut parents = loaded.parents;
+    parents[i] = feeding_station(i, station);
     let mut counts = loaded.counts;
     counts[i] = station.count;
+    let mut moved = loaded.moved;
+    enter_moves(shape.rank, from, station, i * 64, &mut moved);
     let mut sizes = loaded.sizes;
     let kept = enter_sizes(shape, station, i * 8, &mut sizes);
-    let mut sizes_kept = false;
-    if kept {
-        sizes_kept = loaded.sizes_kept;
-    }
     Loaded {
-        counts_kept: loaded.counts_kept,
+        numbers_kept: loaded.numbers_kept,
         layouts_kept: loaded.layouts_kept,
         repeat,
-        sizes_kept,
+        sizes_kept: both(loaded.sizes_kept, kept),
+        parents,
         counts,
         sizes,
         moved,
-        last: station,
     }
 }
 
-// One station more, station i.
-pub fn add(shape: Shape, loaded: Loaded, i: usize, station: Station) -> Loaded
-    requires { ⌜ Ready shape loaded i ⌝ }
-    ensures { λ r. ⌜ Adds shape loaded i station r ⌝ }
+// One station more, station i, which `from` feeds. Nothing is entered any more where an earlier one breaks its rule 2
+// or 3.
+pub fn add(shape: Shape, loaded: Loaded, i: usize, station: Station, from: Station) -> Loaded
+    requires { ⌜ Ready shape loaded i station from ⌝ }
+    ensures { λ r. ⌜ Adds shape loaded i station from r ⌝ }
 {
-    let mut next = loaded;
-    if !good_count(station) {
-        next.counts_kept = false;
+    if !both(good_count(station), good_parent(i, station)) {
+        let mut next = loaded;
+        next.numbers_kept = false;
         return next;
     }
     if !good_layouts(shape.rank, station) {
+        let mut next = loaded;
         next.layouts_kept = false;
         return next;
     }
-    enter(shape, loaded, i, station)
+    if !both(loaded.numbers_kept, loaded.layouts_kept) {
+        return loaded;
+    }
+    enter(shape, loaded, i, station, from)
 }
 
 // Reads the first n records of the list.
@@ -229,7 +232,9 @@ pub fn load(shape: Shape, stations: &[Station], n: usize, start: Loaded) -> Load
     let mut loaded = start;
     let mut i: usize = 0;
     while i < n {
-        loaded = add(shape, loaded, i, stations[i]);
+        let station = stations[i];
+        let from = feeding_station(i, station);
+        loaded = add(shape, loaded, i, station, stations[from]);
         i += 1;
     }
     loaded

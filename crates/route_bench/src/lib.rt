@@ -1,4 +1,5 @@
-// The route call for a benchmark: stations made from a seed, planned by the library.
+// The route call for a benchmark: stations made from a seed, in a chain, a star or a random tree, planned by the
+// library.
 use layout::Layout;
 use refusal::Verdict;
 use route::Station;
@@ -68,12 +69,30 @@ fn station_of(seed: u64) -> Made {
         k = (k + step) % 16;
         a += 1;
     }
-    let station = Station { count: 8, layouts };
+    let station = Station {
+        parent: 0,
+        count: 8,
+        layouts,
+    };
     Made { station, state }
 }
 
+// The parent of station i: form 0 is a chain, 1 a star, any other a random tree.
+fn parent_of(form: u64, state: u64, i: usize) -> usize {
+    if i == 0 {
+        return 0;
+    }
+    if form == 0 {
+        return i - 1;
+    }
+    if form == 1 {
+        return 0;
+    }
+    (state / 1048576) as usize % i
+}
+
 // 64 stations.
-fn stations_of(seed: u64) -> [Station; 64] {
+fn stations_of(form: u64, seed: u64) -> [Station; 64] {
     let first = station_of(seed);
     let station = first.station;
     let mut state = first.state;
@@ -81,9 +100,10 @@ fn stations_of(seed: u64) -> [Station; 64] {
     let mut i: usize = 1;
     while i < 64 {
         let made = station_of(state);
-        let station = made.station;
-        stations[i] = station;
+        let mut station = made.station;
         state = made.state;
+        station.parent = parent_of(form, state, i);
+        stations[i] = station;
         i += 1;
     }
     stations
@@ -91,10 +111,10 @@ fn stations_of(seed: u64) -> [Station; 64] {
 
 // The least total through 64 stations of 8 layouts with a limit on moves, or 0 where it is refused.
 #[no_mangle]
-pub extern "C" fn route_total(seed: u64, moves: u64) -> u64 {
+pub extern "C" fn tree_total(form: u64, seed: u64, moves: u64) -> u64 {
     let answer = route::best_route_of(
         table(),
-        stations_of(seed),
+        stations_of(form, seed),
         64,
         64,
         1099511627776,
@@ -107,10 +127,16 @@ pub extern "C" fn route_total(seed: u64, moves: u64) -> u64 {
     }
 }
 
+// The same for a chain.
+#[no_mangle]
+pub extern "C" fn route_total(seed: u64, moves: u64) -> u64 {
+    tree_total(0, seed, moves)
+}
+
 // The same stations without a plan: what making them costs.
 #[no_mangle]
 pub extern "C" fn stations_only(seed: u64) -> u64 {
-    let stations = stations_of(seed);
+    let stations = stations_of(0, seed);
     let last = stations[63];
     let layout = last.layouts[7];
     layout.tile[0]

@@ -1,4 +1,5 @@
-// The request `route`: a shape, a cell limit, a limit on moves, and the layouts of the stations.
+// The requests `route` and `tree`: a shape, a cell limit, a limit on moves, and the stations: their layouts, in a tree
+// behind the number of the parent.
 use layout::Layout;
 use reading::Cursor;
 use reading::expect;
@@ -31,6 +32,12 @@ struct StationsRead {
     next: Cursor,
 }
 
+// A station's parent.
+struct ParentRead {
+    parent: usize,
+    next: Cursor,
+}
+
 // What stands before the stations.
 struct Limits {
     shape: Shape,
@@ -51,9 +58,27 @@ fn no_station() -> Station {
         tile,
     };
     Station {
+        parent: 0,
         count: 0,
         layouts: [layout; 8],
     }
+}
+
+// The parent of the station at a place: in a tree the number that stands there, else the station before it.
+fn read_parent(line: &[u8], from: Cursor, tree: bool, place: usize) -> ParentRead {
+    if tree {
+        let read = read_unsigned(line, from);
+        let next = read.next;
+        return ParentRead {
+            parent: read.value as usize,
+            next,
+        };
+    }
+    let mut parent = place;
+    if 0 < parent {
+        parent -= 1;
+    }
+    ParentRead { parent, next: from }
 }
 
 // The station with the layout at its cursor.
@@ -70,16 +95,13 @@ fn with_layout(line: &[u8], read: StationRead) -> StationRead {
     StationRead { station, next }
 }
 
-// One or more layouts.
-fn read_station(line: &[u8], from: Cursor) -> StationRead {
-    let station = no_station();
-    let mut read = with_layout(
-        line,
-        StationRead {
-            station,
-            next: from,
-        },
-    );
+// A parent, and one or more layouts.
+fn read_station(line: &[u8], from: Cursor, tree: bool, place: usize) -> StationRead {
+    let named = read_parent(line, from, tree, place);
+    let next = named.next;
+    let mut station = no_station();
+    station.parent = named.parent;
+    let mut read = with_layout(line, StationRead { station, next });
     let mut left = line.len();
     while left > 0 && is_next(line, read.next, b'{') {
         read = with_layout(line, read);
@@ -89,12 +111,12 @@ fn read_station(line: &[u8], from: Cursor) -> StationRead {
 }
 
 // The stations with the one at a place behind them.
-fn with_station(line: &[u8], read: StationsRead, from: Cursor) -> StationsRead {
-    let found = read_station(line, from);
+fn with_station(line: &[u8], read: StationsRead, from: Cursor, tree: bool) -> StationsRead {
+    let place = read.number;
+    let found = read_station(line, from, tree, place);
     let station = found.station;
     let next = found.next;
     let mut stations = read.stations;
-    let place = read.number;
     if place < 64 {
         stations[place] = station;
     }
@@ -106,29 +128,29 @@ fn with_station(line: &[u8], read: StationsRead, from: Cursor) -> StationsRead {
 }
 
 // The first 64 stations, with semicolons between them.
-fn first_stations(line: &[u8], from: Cursor) -> StationsRead {
+fn first_stations(line: &[u8], from: Cursor, tree: bool) -> StationsRead {
     let none = StationsRead {
         stations: [no_station(); 64],
         number: 0,
         next: from,
     };
-    let mut read = with_station(line, none, from);
+    let mut read = with_station(line, none, from, tree);
     let mut left: usize = 63;
     while left > 0 && is_next(line, read.next, b';') {
-        read = with_station(line, read, expect(line, read.next, b';'));
+        read = with_station(line, read, expect(line, read.next, b';'), tree);
         left -= 1;
     }
     read
 }
 
 // The stations, of which those past the first 64 are counted.
-fn read_stations(line: &[u8], from: Cursor) -> StationsRead {
-    let mut read = first_stations(line, from);
+fn read_stations(line: &[u8], from: Cursor, tree: bool) -> StationsRead {
+    let mut read = first_stations(line, from, tree);
     let mut number = read.number;
     let mut next = read.next;
     let mut left = line.len();
     while left > 0 && is_next(line, next, b';') {
-        let found = read_station(line, expect(line, next, b';'));
+        let found = read_station(line, expect(line, next, b';'), tree, number);
         next = found.next;
         number = one_more(number);
         left -= 1;
@@ -183,11 +205,20 @@ fn plan(answer: Route, number: usize, out: &mut [u8], at: usize) -> usize {
     labelled(out, next, b" total ", answer.total)
 }
 
-// The answer to a route whose arguments start at a cursor.
+// The answer to a route through stations in a row whose arguments start at a cursor.
 pub fn answer_route(line: &[u8], from: Cursor, out: &mut [u8], at: usize) -> usize {
+    answer_stations(line, from, false, out, at)
+}
+
+// The same for a tree.
+pub fn answer_tree(line: &[u8], from: Cursor, out: &mut [u8], at: usize) -> usize {
+    answer_stations(line, from, true, out, at)
+}
+
+fn answer_stations(line: &[u8], from: Cursor, tree: bool, out: &mut [u8], at: usize) -> usize {
     let limits = read_limits(line, from);
     let shape = limits.shape;
-    let read = read_stations(line, limits.next);
+    let read = read_stations(line, limits.next, tree);
     let stations = read.stations;
     let number = read.number;
     let end = finish(line, read.next);

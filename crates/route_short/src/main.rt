@@ -1,5 +1,6 @@
-// Shows number 9 of a route: a list of stations that is one record short, and the same list whole; and that a layout that stands
-// twice is judged before it, on the records lent.
+// Shows number 9 of a route: a list of stations that is one record short, and the same list whole; and that a layout
+// that stands twice and a parent that is not earlier are judged before it, on the records lent, the first one's parent
+// not at all.
 use layout::Layout;
 use libc::STDOUT_FILENO;
 use refusal::Verdict;
@@ -7,8 +8,8 @@ use route::Route;
 use route::Station;
 use shape::Shape;
 
-// A station that lists the untiled layout of a table of rank 1, so many times.
-fn station(count: usize) -> Station {
+// A station with a parent that lists the untiled layout of a table of rank 1, so many times.
+fn station(parent: usize, count: usize) -> Station {
     let layout = Layout {
         rank: 1,
         minor_to_major: [0; 6],
@@ -17,18 +18,20 @@ fn station(count: usize) -> Station {
         tile: [0; 18],
     };
     Station {
+        parent,
         count,
         layouts: [layout; 8],
     }
 }
 
-// The route of a table of 5 elements through a number of stations with so many layouts, of which some are lent.
-fn through(lent: usize, number: usize, count: usize) -> Route {
+// The route of a table of 5 elements through a number of stations with one parent and so many layouts, of which some
+// are lent.
+fn through(lent: usize, number: usize, parent: usize, count: usize) -> Route {
     let shape = Shape {
         rank: 1,
         sizes: [5; 6],
     };
-    let stations = [station(count); 64];
+    let stations = [station(parent, count); 64];
     route::best_route_of(shape, stations, lent, number, 100, 0)
 }
 
@@ -55,10 +58,13 @@ fn show(answer: Route) {
 }
 
 fn main() {
-    show(through(3, 3, 1));
-    show(through(2, 3, 1));
-    show(through(0, 1, 1));
-    show(through(64, 64, 1));
-    show(through(2, 3, 2));
-    show(through(0, 1, 2));
+    show(through(3, 3, 0, 1));
+    show(through(2, 3, 0, 1));
+    show(through(0, 1, 0, 1));
+    show(through(64, 64, 0, 1));
+    show(through(2, 3, 0, 2));
+    show(through(0, 1, 0, 2));
+    show(through(2, 3, 1, 1));
+    show(through(1, 3, 1, 1));
+    show(through(1, 1, 1, 1));
 }

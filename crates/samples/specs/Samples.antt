@@ -5,7 +5,7 @@ use lib.IntN.{ℤ, pos, negsuc}
 use lib.ListN.{length, replicate}
 use Rattle.integer.specs.Floor.{floorDiv, floorMod}
 use Rattle.refusal.specs.Number.{Answer, done, refusal}
-use Rattle.refusal.specs.declared.Refusal.the-variants.{ShapeLimits, LayoutRule, RepeatedLayout, Outside, NoPlan}
+use Rattle.refusal.specs.declared.Refusal.the-variants.{ShapeLimits, Attribute, LayoutRule, RepeatedLayout, Outside, NoPlan}
 use Rattle.shape.specs.Answers.{elementCount}
 use Rattle.shape.specs.declared.Shape.{Shape}
 use Rattle.reciprocal.specs.Answers.{multiplierEntry}
@@ -67,8 +67,8 @@ tiled-twice =
       tile = 2 ∷ 4 ∷ 0 ∷ 0 ∷ 0 ∷ 0 ∷ 2 ∷ 1 ∷ replicate 10 0;
     }
 
-abbrev station : List Layout → Station
-station ls = record { count = length ls; layouts = ls }
+abbrev station : ℕ → List Layout → Station
+station parent ls = record { parent = parent; count = length ls; layouts = ls }
 
 -- the stations in their order, with the cell limit 2^40
 abbrev through : Shape → List Station → ℕ → Answer ℕ
@@ -109,13 +109,33 @@ samples =
     -- [4,8] to [2,4,4], output to input: (d0 * 2 + d1 floordiv 2, d2 + (d1 mod 2) * 4)
     ∷ hands-out (outputToInputAnswer (Operation.reshape (matrix 4 8) (cube 2 4 4))) splitMap
     -- [3,5] at stations [A,T], [T,A], [T]: K = 1 gives places 0,1,0, total 2,093 (Q-4); K = 0 gives 1,0,0, total 3,072
-    ∷ says (through (matrix 3 5) (station (A ∷ T ∷ []) ∷ station (T ∷ A ∷ []) ∷ station (T ∷ []) ∷ []) 1) (gives (0 ∷ 1 ∷ 0 ∷ []) 2093)
-    ∷ says (through (matrix 3 5) (station (A ∷ T ∷ []) ∷ station (T ∷ A ∷ []) ∷ station (T ∷ []) ∷ []) 0) (gives (1 ∷ 0 ∷ 0 ∷ []) 3072)
+    ∷ says (through (matrix 3 5) (station 0 (A ∷ T ∷ []) ∷ station 0 (T ∷ A ∷ []) ∷ station 1 (T ∷ []) ∷ []) 1) (gives (0 ∷ 1 ∷ 0 ∷ []) 2093)
+    ∷ says (through (matrix 3 5) (station 0 (A ∷ T ∷ []) ∷ station 0 (T ∷ A ∷ []) ∷ station 1 (T ∷ []) ∷ []) 0) (gives (1 ∷ 0 ∷ 0 ∷ []) 3072)
     -- stations [T], [A] with K = 0: 10; [4,4], one station [{1,0}, {0,1}]: place 0, total 16
-    ∷ says (through (matrix 3 5) (station (T ∷ []) ∷ station (A ∷ []) ∷ []) 0) (refusal routeZeros NoPlan)
-    ∷ says (through (matrix 4 4) (station (untiled 1 0 ∷ untiled 0 1 ∷ []) ∷ []) 0) (gives (0 ∷ []) 16)
+    ∷ says (through (matrix 3 5) (station 0 (T ∷ []) ∷ station 0 (A ∷ []) ∷ []) 0) (refusal routeZeros NoPlan)
+    ∷ says (through (matrix 4 4) (station 0 (untiled 1 0 ∷ untiled 0 1 ∷ []) ∷ []) 0) (gives (0 ∷ []) 16)
     -- the same layout twice (Q-9): stations [A], [A, {0,1}, A]: 3, station 1, places 0 and 2
-    ∷ says (through (matrix 3 5) (station (A ∷ []) ∷ station (A ∷ untiled 0 1 ∷ A ∷ []) ∷ []) 1) (refusal routeZeros (RepeatedLayout 1 0 2))
+    ∷ says (through (matrix 3 5) (station 0 (A ∷ []) ∷ station 0 (A ∷ untiled 0 1 ∷ A ∷ []) ∷ []) 1) (refusal routeZeros (RepeatedLayout 1 0 2))
+    -- forked routes (Q-11): A with two children T, K = 2: total 4,141, as a chain 3,102; the fork with K = 1: 10
+    ∷ says (through (matrix 3 5) (station 7 (A ∷ []) ∷ station 0 (T ∷ []) ∷ station 0 (T ∷ []) ∷ []) 2) (gives (0 ∷ 0 ∷ 0 ∷ []) 4141)
+    ∷ says (through (matrix 3 5) (station 0 (A ∷ []) ∷ station 0 (T ∷ []) ∷ station 1 (T ∷ []) ∷ []) 2) (gives (0 ∷ 0 ∷ 0 ∷ []) 3102)
+    ∷ says (through (matrix 3 5) (station 0 (A ∷ []) ∷ station 0 (T ∷ []) ∷ station 0 (T ∷ []) ∷ []) 1) (refusal routeZeros NoPlan)
+    -- one branch may move and both save alike: the places decide in station order
+    ∷ says
+    (through (matrix 3 5)
+    (station 0 (T ∷ [])
+    ∷ station 0 (T ∷ [])
+    ∷ station 0 (A ∷ T ∷ [])
+    ∷ station 1 (A ∷ T ∷ [])
+    ∷ station 2 (A ∷ T ∷ [])
+    ∷ station 4 (A ∷ T ∷ [])
+    ∷ station 3 (A ∷ T ∷ [])
+    ∷ station 6 (A ∷ T ∷ [])
+    ∷ [])
+    1)
+    (gives (0 ∷ 0 ∷ 0 ∷ 1 ∷ 0 ∷ 0 ∷ 1 ∷ 1 ∷ []) 6204)
+    -- a parent that is not earlier: 2
+    ∷ says (through (matrix 3 5) (station 0 (A ∷ []) ∷ station 1 (A ∷ []) ∷ []) 0) (refusal routeZeros Attribute)
     -- tile entry 1,024 passes, 1,025 is 3; size 2^20 passes; 0 and 2^20 + 1 are 1
     ∷ says (paddedSize (matrix 3 5) (tiled 1024 1)) (at 5120)
     ∷ says (paddedSize (matrix 3 5) (tiled 1025 1)) (refusal (0 ∷ []) LayoutRule)

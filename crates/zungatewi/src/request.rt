@@ -16,6 +16,7 @@ use reading::part;
 use reading::read_word;
 use retile_requests::answer_retile;
 use route_requests::answer_route;
+use route_requests::answer_tree;
 
 // The answer to a request for an operation's map, or on shapes and layouts.
 fn respond_named(line: &[u8], name: Word, from: Cursor, out: &mut [u8], at: usize) -> usize {
@@ -35,6 +36,9 @@ pub fn respond(line: &[u8], out: &mut [u8], at: usize) -> usize {
     };
     if same(word, b"route") {
         return answer_route(line, from, out, at);
+    }
+    if same(word, b"tree") {
+        return answer_tree(line, from, out, at);
     }
     if same(word, b"retile") {
         return answer_retile(line, from, out, at);

@@ -179,7 +179,7 @@ module _ {M : Type 1} (𝓤 : URA M) (H : Heap 𝓤) (A : Atoms 𝓤) (W : Given
 
   goes-finish :
       (h : Loaded) →
-      Sound (sh .rank) h →
+      Sound h →
       ent 𝓤 (sep 𝓤 (sem 𝓤 H A ftrue) (sem 𝓤 H A (owns (P.the-row ∷ D.the-row ∷ usize ∷ usize ∷ u64 ∷ usize ∷ []) (sh, (h, (len, (number, (cells, (moves, tt)))))) (given h)))) (Finish 𝓤 H A mem run .pre (to-finish h))
   goes-finish h sound = qed W (‵ ftrue ∷ ‵ (owns (P.the-row ∷ D.the-row ∷ usize ∷ usize ∷ u64 ∷ usize ∷ []) (sh, (h, (len, (number, (cells, (moves, tt)))))) (given h)) ∷ []) ∵ says ! sound $ frame ! $ done !
 

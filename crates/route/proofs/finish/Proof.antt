@@ -5,12 +5,16 @@ use native.Mathlib.Omega.{arith}
 use lib.ListN.{length}
 use Rattle.refusal.specs.declared.Verdict.{Verdict}
 use Rattle.refusal.specs.declared.Verdict.the-variants.{Done}
+use Rattle.tree_planner.specs.Words.{Usable}
 use Rattle.route.specs.Loading.{Judges, Answers}
 use Rattle.route.specs.declared.Route.{Route}
 use Rattle.route.proofs.Judging.{limited}
 use Rattle.route.proofs.Answering.{usable, finish-refused, finish-none, finish-some}
 use Rattle.route.proofs.finish.Statement.{statement}
 use Rattle.route.proofs.finish.Tie as tie
+
+parents-long : (s : tie.Start) → length (s .args .loaded .parents) ≡ 64
+parents-long s = search needs
 
 counts-long : (s : tie.Start) → length (s .args .loaded .counts) ≡ 64
 counts-long s = search needs
@@ -43,12 +47,19 @@ no-route-requires c κs = search needs
 enum-told : tie.Need-enum-told
 enum-told c = search needs
 
-best-plan-requires : tie.Need-best-plan-requires
-best-plan-requires c κs =
-    let t = c .before .before .before in
-    let s = t .before .before .before in
-    let L = limited _ _ _ (judged t .limits refl) in
-    (usable (s .args .shape .rank) (s .args .loaded) _ _ _ (counts-long s) (sizes-long s) (moved-long s) (s .pre) L, omega (arith, L .moves-in))
+-- the tables are what the planner asks for
+tables-usable :
+    (c : tie.After-enum-told) →
+    (let s = c .before .before .before .args in
+    Usable (s .loaded .parents) (s .loaded .counts) (s .loaded .sizes) (s .loaded .moved) (s .number) (s .cells))
+tables-usable c =
+    let s = c .before .before .before in
+    usable (s .args .loaded) _ _ _ (parents-long s) (counts-long s) (sizes-long s) (moved-long s) (s .pre) (limited _ _ _ (judged c .limits refl))
+
+best-tree-plan-requires : tie.Need-best-tree-plan-requires
+best-tree-plan-requires c κs =
+    let t = c .before .before .before .before in
+    (tables-usable t, omega (arith, limited _ _ _ (judged t .limits refl) .moves-in))
 
 no-route-requires-2 : tie.Need-no-route-requires-2
 no-route-requires-2 c κs = search needs
@@ -63,15 +74,16 @@ returns c =
 returns-2 : tie.Need-returns-2
 returns-2 c =
     let p = c .before .before in
-    finish-some _ _ _ _ _ _ (judged (p .before .before .before .before)) _ (p .best-plan .ensures) (c .before .if1 .taken)
+    let t = p .before .before .before .before .before in
+    finish-some _ _ _ _ _ _ (judged t) _ (p .best-tree-plan .ensures) (tables-usable t) (c .before .if1 .taken)
 
 returns-3 : tie.Need-returns-3
 returns-3 c =
     let p = c .before .before in
-    let t = p .before .before .before .before in
+    let t = p .before .before .before .before .before in
     let s = t .before .before .before in
     subst (λ (r : Route). Answers (s .args .shape) (s .args .loaded) (s .args .len) (s .args .number) (s .args .cells) (s .args .moves) r) (sym (c .no-route2 .ensures))
-    (finish-none _ _ _ _ _ _ (judged t) _ (p .best-plan .ensures) (c .before .if1 .left))
+    (finish-none _ _ _ _ _ _ (judged t) _ (p .best-tree-plan .ensures) (tables-usable t) (c .before .if1 .left))
 
 pub finish-spec : {M : Type 1} → statement M
 finish-spec =
@@ -81,7 +93,7 @@ finish-spec =
     enum-known-r
     no-route-requires
     enum-told
-    best-plan-requires
+    best-tree-plan-requires
     no-route-requires-2
     returns
     returns-2

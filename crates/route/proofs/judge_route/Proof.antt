@@ -1,12 +1,11 @@
 -- `route::judge_route` meets its contract. Assumes nothing.
 use borrow.Author.Needs.{needs}
 use borrow.Author.Tests.{not-true, not-false}
-use mathlib.Core.Path.{_≡_, sym, ap, _∙_}
+use mathlib.Core.Path.{_≡_, sym, _∙_}
 use mathlib.Core.Bool.{true}
 use Rattle.shape.specs.Shape.{goodShape}
 use Rattle.route.specs.Route.{goodLimits}
-use Rattle.route.specs.Loading.{firstRefusal}
-use Rattle.route.proofs.Judging.{no-shape, no-limits, no-counts, no-layouts, after-layouts}
+use Rattle.route.proofs.Judging.{no-shape, no-limits, no-numbers, no-layouts, after-layouts}
 use Rattle.route.proofs.judge_route.Statement.{statement}
 use Rattle.route.proofs.judge_route.Tie as tie
 
@@ -31,7 +30,7 @@ returns-2 c = no-limits _ _ _ _ _ _ (shape (c .before .before)) (sym (c .before 
 returns-3 : tie.Need-returns-3
 returns-3 c =
     let e = c .before .before in
-    no-counts _ _ _ _ _ _ (shape (e .before .before)) (limits e) (not-true _ (c .if3 .taken))
+    no-numbers _ _ _ _ _ _ (shape (e .before .before)) (limits e) (not-true _ (c .if3 .taken))
 
 returns-4 : tie.Need-returns-4
 returns-4 c =
@@ -50,8 +49,9 @@ returns-5 c =
     let g = c .before .before in
     let f = g .before .before in
     let e = f .before .before in
-    after-layouts _ _ _ _ _ _ (shape (e .before .before)) (limits e) (not-false _ (f .if3 .left)) (not-false _ (g .if4 .left)) _
-    (c .first-refusal .ensures ∙ ap (firstRefusal (e .before .before .before .before .args .loaded .repeat)) (c .before .judge-sizes .ensures))
+    after-layouts _ _ _ _ _ _ (shape (e .before .before)) (limits e) (not-false _ (f .if3 .left)) (not-false _ (g .if4 .left)) _ _
+    (c .before .judge-sizes .ensures)
+    (c .first-refusal .ensures)
 
 pub judge-route-spec : {M : Type 1} → statement M
 judge-route-spec =

@@ -5,10 +5,10 @@ use Rattle.route_bench.proofs.stations_of.Statement.{statement}
 use Rattle.route_bench.proofs.stations_of.Tie as tie
 
 abbrev Inv-loop : tie.InvT-loop
-Inv-loop seed state₀ stations₀ i₀ state stations i = i ≤ 64
+Inv-loop form seed state₀ stations₀ i₀ state stations i = i ≤ 64
 
 abbrev μ-loop : tie.MeasureT-loop
-μ-loop seed state₀ stations₀ i₀ state stations i = 64 - i
+μ-loop form seed state₀ stations₀ i₀ state stations i = 64 - i
 
 station-of-requires : tie.Need-station-of-requires Inv-loop μ-loop
 station-of-requires c κs = search needs
@@ -18,6 +18,9 @@ loop-holds c = search needs
 
 station-of-requires-2 : tie.Need-station-of-requires-2 Inv-loop μ-loop
 station-of-requires-2 c κs = search needs
+
+parent-of-requires : tie.Need-parent-of-requires Inv-loop μ-loop
+parent-of-requires c κs = search needs
 
 mul-stations : tie.Need-mul-stations Inv-loop μ-loop
 mul-stations c = search needs
@@ -46,6 +49,7 @@ stations-of-spec =
     station-of-requires
     loop-holds
     station-of-requires-2
+    parent-of-requires
     mul-stations
     array-set-from-stations
     add-i

@@ -5,10 +5,10 @@ use Rattle.route_requests.proofs.first_stations.Statement.{statement}
 use Rattle.route_requests.proofs.first_stations.Tie as tie
 
 abbrev Inv-loop : tie.InvT-loop
-Inv-loop line read₀ left₀ read left = Unit {0}
+Inv-loop line tree read₀ left₀ read left = Unit {0}
 
 abbrev μ-loop : tie.MeasureT-loop
-μ-loop line read₀ left₀ read left = left
+μ-loop line tree read₀ left₀ read left = left
 
 no-station-requires : tie.Need-no-station-requires Inv-loop μ-loop
 no-station-requires c κs = search needs

@@ -5,10 +5,13 @@ use Rattle.route_requests.proofs.read_station.Statement.{statement}
 use Rattle.route_requests.proofs.read_station.Tie as tie
 
 abbrev Inv-loop : tie.InvT-loop
-Inv-loop line read₀ left₀ read left = Unit {0}
+Inv-loop line tree place read₀ left₀ read left = Unit {0}
 
 abbrev μ-loop : tie.MeasureT-loop
-μ-loop line read₀ left₀ read left = left
+μ-loop line tree place read₀ left₀ read left = left
+
+read-parent-requires : tie.Need-read-parent-requires Inv-loop μ-loop
+read-parent-requires c κs = search needs
 
 no-station-requires : tie.Need-no-station-requires Inv-loop μ-loop
 no-station-requires c κs = search needs
@@ -46,6 +49,7 @@ read-station-spec =
     (tie.spec
     Inv-loop
     μ-loop
+    read-parent-requires
     no-station-requires
     with-layout-requires
     loop-holds

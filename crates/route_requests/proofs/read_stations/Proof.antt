@@ -5,10 +5,10 @@ use Rattle.route_requests.proofs.read_stations.Statement.{statement}
 use Rattle.route_requests.proofs.read_stations.Tie as tie
 
 abbrev Inv-loop : tie.InvT-loop
-Inv-loop line read₀ number₀ next₀ left₀ number next left = Unit {0}
+Inv-loop line tree read number₀ next₀ left₀ number next left = Unit {0}
 
 abbrev μ-loop : tie.MeasureT-loop
-μ-loop line read₀ number₀ next₀ left₀ number next left = left
+μ-loop line tree read number₀ next₀ left₀ number next left = left
 
 first-stations-requires : tie.Need-first-stations-requires Inv-loop μ-loop
 first-stations-requires c κs = search needs

@@ -1,0 +1,10 @@
+pub mod Sums
+pub mod Lowest
+pub mod Merging
+pub mod Agreeing
+pub mod Digits
+pub mod Bounds
+pub mod Optimal
+pub mod Alike
+pub mod Chain
+pub mod Theorems
