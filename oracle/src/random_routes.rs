@@ -54,12 +54,17 @@ pub fn layouts_text(station: &[Draft]) -> String {
 
 /// A route line, seldom damaged, sometimes with other spaces.
 pub fn random_route_line(random: &mut Random) -> Vec<u8> {
-    let mut line = random_route(random).text().into_bytes();
+    let line = random_route(random).text().into_bytes();
+    seldom_damaged(random, line, b";;;{}:,")
+}
+
+/// A line as it is, or damaged, or with one of the marks more, or with other spaces.
+pub fn seldom_damaged(random: &mut Random, mut line: Vec<u8>, marks: &[u8]) -> Vec<u8> {
     match random.below(100) {
         0..=2 => crate::damage::damage(random, line),
         3..=6 => {
             let place = random.below(line.len() as u64 + 1) as usize;
-            line.insert(place, random.pick(b";;;{}:,"));
+            line.insert(place, random.pick(marks));
             line
         }
         7..=16 => spaced(random, &line),

@@ -1,13 +1,11 @@
 //! Random tree lines: forks of many forms, branches alike, limits that just fit, and every refusal.
 
-use crate::damage::damage;
 use crate::random::Random;
 use crate::random_pieces::{random_draft, unsigned, Draft};
-use crate::random_requests::spaced;
 use crate::random_route_breaks::{break_rule, break_some_layout};
 use crate::random_route_limits::limit_around;
 use crate::random_route_repeats::repeat_layouts;
-use crate::random_routes::{layouts_text, stations, RouteDraft, TOP_COUNT};
+use crate::random_routes::{layouts_text, seldom_damaged, stations, RouteDraft, TOP_COUNT};
 use crate::random_tree_forms::{break_parents, random_parents};
 use crate::random_tree_savings::saving_tree;
 use crate::tree::{costs_by_moves, Costs, Tree};
@@ -43,17 +41,8 @@ fn tree(route: &RouteDraft, parents: &[i64]) -> Tree {
 
 /// A tree line, seldom damaged, sometimes with other spaces.
 pub fn random_tree_line(random: &mut Random) -> Vec<u8> {
-    let mut line = random_tree(random).text().into_bytes();
-    match random.below(100) {
-        0..=2 => damage(random, line),
-        3..=6 => {
-            let place = random.below(line.len() as u64 + 1) as usize;
-            line.insert(place, random.pick(b";;{}:,-01"));
-            line
-        }
-        7..=16 => spaced(random, &line),
-        _ => line,
-    }
+    let line = random_tree(random).text().into_bytes();
+    seldom_damaged(random, line, b";;{}:,-01")
 }
 
 /// A small tree that breaks no rule, for comparing with every plan.

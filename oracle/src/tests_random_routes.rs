@@ -10,17 +10,20 @@ use crate::request::{read_request, Request};
 use crate::route::{best_plan, Route};
 use crate::vectors::{RANDOM_ROUTES, SEED};
 
+/// What the stored random lines of a kind ask, of those that can be read.
+pub fn stored<T>(count: u64, kind: Kind, asked: impl Fn(Request) -> Option<T>) -> Vec<T> {
+    random_lines(SEED, count, Some(kind))
+        .split(|byte| *byte == b'\n')
+        .filter_map(|line| read_request(line).ok().and_then(&asked))
+        .collect()
+}
+
 /// The stored random routes that can be read.
 fn stored_routes() -> Vec<Route> {
-    let lines = random_lines(SEED, RANDOM_ROUTES, Some(Kind::Route));
-    let route = |line: &[u8]| match read_request(line) {
-        Ok(Request::Route(route)) => Some(route),
+    stored(RANDOM_ROUTES, Kind::Route, |request| match request {
+        Request::Route(route) => Some(route),
         _ => None,
-    };
-    lines
-        .split(|byte| *byte == b'\n')
-        .filter_map(route)
-        .collect()
+    })
 }
 
 /// Checks that each case is there often enough, and no other.

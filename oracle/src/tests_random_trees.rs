@@ -2,28 +2,23 @@
 
 use std::collections::BTreeMap;
 
-use crate::random_kinds::{random_lines, Kind};
+use crate::random_kinds::Kind;
 use crate::refusal::Refusal;
-use crate::request::{read_request, Request};
+use crate::request::Request;
 use crate::route::{best_plan, Plan};
 use crate::station_rules::judge_parents;
-use crate::tests_random_routes::check_counts;
+use crate::tests_random_routes::{check_counts, stored};
 use crate::tree::{best_tree_plan, Tree};
 use crate::tree_by_trial::tree_plans_by_rules;
-use crate::vectors::{RANDOM_TREES, SEED};
+use crate::vectors::RANDOM_TREES;
 use crate::wrong_tree_rules::WRONG_RULES;
 
 /// The stored random trees that can be read.
 fn stored_trees() -> Vec<Tree> {
-    let lines = random_lines(SEED, RANDOM_TREES, Some(Kind::Tree));
-    let tree = |line: &[u8]| match read_request(line) {
-        Ok(Request::Tree(tree)) => Some(tree),
+    stored(RANDOM_TREES, Kind::Tree, |request| match request {
+        Request::Tree(tree) => Some(tree),
         _ => None,
-    };
-    lines
-        .split(|byte| *byte == b'\n')
-        .filter_map(tree)
-        .collect()
+    })
 }
 
 /// How often each case stands among the stored trees.

@@ -1,5 +1,5 @@
-// The planner over a tree of stations: rows of least weights, each station's merged into its parent's, the last first. Inner
-// functions of the library.
+// The planner over a tree of stations: rows of least weights, each station's merged into its parent's, the last first.
+// Inner functions of the library.
 use plan::Plan;
 use tree_plan::MAX_STATIONS;
 ghost use mathlib.Core.Path.{_≡_};
