@@ -1,4 +1,6 @@
 // The rows of numbers that the benchmarks hand over: a shape and a layout are read from one.
+#![tactic(auto)]
+
 use layout::Layout;
 use shape::Shape;
 

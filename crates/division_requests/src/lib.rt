@@ -1,4 +1,6 @@
 // The requests on multipliers, `multiplier D` and `quotient N D`, and the answers to them.
+#![tactic(auto)]
+
 use reading::{Cursor, finish, read_unsigned};
 use reciprocal::Reckoned;
 use writing::{error, labelled, refused};

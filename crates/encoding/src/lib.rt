@@ -1,4 +1,6 @@
 // Nodes of indexing maps written, folded sums back to nodes, and records made of parts. Inner functions of the library.
+#![tactic(auto)]
+
 mod emitting;
 mod nodes;
 mod records;

@@ -1,4 +1,6 @@
 // Expressions of indexing maps as nodes in postfix order: reading nodes, trees, values and reckoned ranges. Inner functions of the library.
+#![tactic(auto)]
+
 mod nodes;
 mod reckoning;
 mod trees;
@@ -10,7 +12,7 @@ pub use trees::is_tree;
 pub use values::value_of;
 
 // What stands at a leaf of a tree: a dimension or a range variable by its number, or a constant.
-#[derive(Drop)]
+#[derive(Clone, Copy)]
 pub enum Leaf {
     Dim(usize),
     Range(usize),
@@ -18,7 +20,7 @@ pub enum Leaf {
 }
 
 // What is done to one tree.
-#[derive(Drop)]
+#[derive(Clone, Copy)]
 pub enum One {
     Product(i64),
     Floordiv(i64),
@@ -26,7 +28,7 @@ pub enum One {
 }
 
 // A node of a tree that stands in postfix order.
-#[derive(Drop)]
+#[derive(Clone, Copy)]
 pub enum Node {
     Leaf(Leaf),
     One(One),
@@ -35,14 +37,14 @@ pub enum Node {
 }
 
 // A reckoned range, or that it passes the limit.
-#[derive(Drop)]
+#[derive(Clone, Copy)]
 pub enum Reckoned {
     Kept(i64, i64),
     Passed,
 }
 
 // Where the stacks of ends start after a node, or that its range passes the limit.
-#[derive(Drop)]
+#[derive(Clone, Copy)]
 pub enum Step {
     At(usize),
     Over,

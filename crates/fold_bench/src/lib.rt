@@ -1,4 +1,6 @@
 // The fold call for a benchmark: a map is read from three rows of numbers, folded by the library and written back.
+#![tactic(auto)]
+
 use indexing::IndexingMap;
 use refusal::Verdict;
 

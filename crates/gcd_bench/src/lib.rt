@@ -1,4 +1,6 @@
 // The greatest common divisor for a benchmark.
+#![tactic(auto)]
+
 ghost use Rattle.std.specs.Prelude.{◌≡◌};
 ghost use Rattle.integer.specs.Gcd.{gcd_of};
 

@@ -1,4 +1,6 @@
 // Indexing maps: the record, judging it, the reckoned ranges of its results and their values at a point.
+#![tactic(auto)]
+
 mod answers;
 pub mod inner;
 mod judging;
@@ -18,7 +20,7 @@ pub const MAX_CONSTRAINTS: usize = 32;
 // Variables with inclusive bounds (dimensions from place 0 of the two arrays, range variables from 8, runtime variables from 16, of
 // which there are none), results and constraints by the number of their nodes, constraints with their ends, and all nodes in postfix
 // order, a kind and a value each, those of the results first. What stands past the counts is not read.
-#[derive(Drop)]
+#[derive(Clone, Copy)]
 pub struct IndexingMap {
     pub dims: usize,
     pub ranges: usize,
@@ -35,14 +37,14 @@ pub struct IndexingMap {
 }
 
 // Where a run of nodes stands and how many nodes it has, or that it is cut off.
-#[derive(Drop)]
+#[derive(Clone, Copy)]
 pub enum Run {
     Held(usize, usize),
     Cut,
 }
 
 // The answer of result_ranges: zeros when refused.
-#[derive(Drop)]
+#[derive(Clone, Copy)]
 pub struct ResultRanges {
     pub verdict: Verdict,
     pub results: usize,
@@ -51,14 +53,14 @@ pub struct ResultRanges {
 }
 
 // The answer of a call that makes a map: a map of zeros when refused.
-#[derive(Drop)]
+#[derive(Clone, Copy)]
 pub struct AnsweredMap {
     pub verdict: Verdict,
     pub map: IndexingMap,
 }
 
 // The answer of evaluate: zeros when refused.
-#[derive(Drop)]
+#[derive(Clone, Copy)]
 pub struct ResultValues {
     pub verdict: Verdict,
     pub results: usize,

@@ -1,4 +1,6 @@
 // Signed 64-bit numbers: floor division and its remainder, exact sums and products within +-2^62, the greatest common divisor.
+#![tactic(auto)]
+
 ghost use Rattle.std.specs.Prelude.{◌≡◌, ◌<◌, ◌≤◌, pos, nat_abs, ◌+ℤ◌, ◌*ℤ◌, ◌<ℤ◌};
 ghost use Rattle.integer.specs.Floor.{floor_div, floor_mod};
 ghost use Rattle.integer.specs.Exact.{limit, exactly, sign_of};
@@ -11,7 +13,7 @@ pub const LIMIT: i64 = 1 << 62;
 const MAX_ROUNDS: u64 = 64;
 
 // An exact result, or that it passes the limit.
-#[derive(Drop)]
+#[derive(Clone, Copy)]
 pub enum Exact {
     Value(i64),
     Passed,

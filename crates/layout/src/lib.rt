@@ -1,4 +1,6 @@
 // Tiled layouts: padded size, offsets, what a cell holds, the layout card and the fit verdict.
+#![tactic(auto)]
+
 pub mod inner;
 mod judge;
 pub mod parts;
@@ -23,7 +25,7 @@ pub const MAX_ENTRIES: usize = 6;
 pub const MAX_ENTRY: u64 = 1024;
 
 // minor_to_major up to the rank; tiles with their lengths, six places to a tile. What stands past the counts is not read.
-#[derive(Drop)]
+#[derive(Clone, Copy)]
 pub struct Layout {
     pub rank: usize,
     pub minor_to_major: [u64; 6],
@@ -33,25 +35,25 @@ pub struct Layout {
 }
 
 // The offset of a cell in the padded buffer.
-#[derive(Drop)]
+#[derive(Clone, Copy)]
 pub struct Offset(pub u64);
 
 // The answer of padded_size.
-#[derive(Drop)]
+#[derive(Clone, Copy)]
 pub enum Padded {
     Cells(u64),
     Refused(Refusal),
 }
 
 // The answer of offset_of_element and offset_of_point.
-#[derive(Drop)]
+#[derive(Clone, Copy)]
 pub enum Placed {
     At(Offset),
     Refused(Refusal),
 }
 
 // The answer of element_at.
-#[derive(Drop)]
+#[derive(Clone, Copy)]
 pub enum Held {
     Holds(Element),
     Padding,
@@ -59,28 +61,28 @@ pub enum Held {
 }
 
 // elements/padded and padding/padded, each one division rounded once.
-#[derive(Drop)]
+#[derive(Clone, Copy)]
 pub struct LayoutCard {
     pub fill: f64,
     pub waste: f64,
 }
 
 // The answer of layout_card.
-#[derive(Drop)]
+#[derive(Clone, Copy)]
 pub enum Carded {
     Card(LayoutCard),
     Refused(Refusal),
 }
 
 // Fits, with the spare share of the limit; or over, with the factor by which it passes the limit.
-#[derive(Drop)]
+#[derive(Clone, Copy)]
 pub enum Fit {
     Fits(f64),
     Over(f64),
 }
 
 // The answer of fit_verdict.
-#[derive(Drop)]
+#[derive(Clone, Copy)]
 pub enum Fitted {
     Judged(Fit),
     Refused(Refusal),

@@ -13,7 +13,7 @@ use refusal::{Refusal, Verdict};
 use shape::Shape;
 
 // The length of the physical shape, the element count and the padded size.
-#[derive(Drop)]
+#[derive(Clone, Copy)]
 pub struct Extent {
     pub len: usize,
     pub count: u64,
@@ -21,7 +21,7 @@ pub struct Extent {
 }
 
 // A verdict, with the extent where it is done.
-#[derive(Drop)]
+#[derive(Clone, Copy)]
 pub struct Measured {
     pub verdict: Verdict,
     pub extent: Extent,

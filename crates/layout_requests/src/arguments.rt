@@ -11,7 +11,7 @@ use shape::Shape;
 const LARGEST: u64 = 4294967295;
 
 // What a request does not have is zero.
-#[derive(Drop)]
+#[derive(Clone, Copy)]
 pub struct Arguments {
     pub shape: Shape,
     pub layout: Layout,

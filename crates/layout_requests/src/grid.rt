@@ -8,7 +8,7 @@ use writing::{aligned, column, put, refused, spaced, text, width};
 const MOST: u64 = 4096;
 
 // The cells listed so far: the next place in the output, and whether there are any.
-#[derive(Drop)]
+#[derive(Clone, Copy)]
 pub struct Listed {
     pub at: usize,
     pub any: bool,

@@ -1,4 +1,6 @@
 // The requests on shapes, layouts and buffers, by name, and the answers to them.
+#![tactic(auto)]
+
 mod answer;
 mod arguments;
 mod buffers;
@@ -10,7 +12,7 @@ use grid::grid;
 use reading::{Cursor, Word, finish, part, skip};
 use writing::error;
 
-#[derive(Drop)]
+#[derive(Clone, Copy)]
 pub enum Request {
     Padded,
     Offset,

@@ -11,7 +11,7 @@ const RIGHT: u8 = 1;
 const OPERAND: u8 = 2;
 
 // The nodes of a map, with the place where the tree of each starts, and what that tree is to the one that it belongs to.
-#[derive(Drop)]
+#[derive(Clone, Copy)]
 pub struct Trees {
     pub kinds: [u8; 256],
     pub values: [i64; 256],
@@ -19,7 +19,7 @@ pub struct Trees {
     pub roles: [u8; 256],
 }
 
-#[derive(Drop)]
+#[derive(Clone, Copy)]
 struct Node {
     kind: u8,
     value: i64,

@@ -1,4 +1,6 @@
 // Printing an indexing map: its head and results on one line, then a line for each item of its domain.
+#![tactic(auto)]
+
 mod infix;
 
 use indexing::{AnsweredMap, IndexingMap};
@@ -8,7 +10,7 @@ use refusal::Verdict;
 use writing::{decimal, interval, put, refused, text};
 
 // The next place in the output, and that of the next node.
-#[derive(Drop)]
+#[derive(Clone, Copy)]
 struct Position {
     at: usize,
     node: usize,

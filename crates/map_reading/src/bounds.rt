@@ -3,7 +3,7 @@ use crate::token::{expect_variable, place_of, read_signed};
 use reading::{Cursor, expect, expect_word};
 
 // The ends of an interval.
-#[derive(Drop)]
+#[derive(Clone, Copy)]
 pub struct Interval {
     pub lower: i64,
     pub upper: i64,
@@ -11,7 +11,7 @@ pub struct Interval {
 }
 
 // The bounds of the variables: dimensions from place 0, range variables from 8.
-#[derive(Drop)]
+#[derive(Clone, Copy)]
 pub struct Bounds {
     pub lower: [i64; 24],
     pub upper: [i64; 24],

@@ -4,7 +4,7 @@ use crate::expression::read_expression;
 use reading::{Cursor, expect, is_next, one_more};
 
 // How many constraints there are, the numbers of nodes and the ends of the first 32, and where the next node goes.
-#[derive(Drop)]
+#[derive(Clone, Copy)]
 pub struct Constraints {
     pub count: usize,
     pub nodes: [usize; 32],

@@ -17,7 +17,7 @@ const PLUS: u8 = 3;
 const MINUS: u8 = 4;
 
 // An expression that is being read.
-#[derive(Drop)]
+#[derive(Clone, Copy)]
 pub struct Expression {
     // How many nodes it has so far, and where its next node goes.
     pub count: usize,

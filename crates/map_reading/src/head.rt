@@ -3,7 +3,7 @@ use crate::token::{expect_arrow, expect_variable};
 use reading::{Cursor, expect, is_next, one_more};
 
 // How many dimensions and range variables a head names.
-#[derive(Drop)]
+#[derive(Clone, Copy)]
 pub struct Head {
     pub dims: usize,
     pub ranges: usize,
@@ -11,7 +11,7 @@ pub struct Head {
 }
 
 // How many variables of one kind a head names.
-#[derive(Drop)]
+#[derive(Clone, Copy)]
 pub struct Names {
     pub count: usize,
     pub next: Cursor,

@@ -1,4 +1,6 @@
 // Reading an indexing map from the line of a request.
+#![tactic(auto)]
+
 mod bounds;
 mod constraints;
 mod expression;

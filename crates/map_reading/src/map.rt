@@ -6,13 +6,13 @@ use crate::results::{Results, read_results};
 use indexing::IndexingMap;
 use reading::{Cursor, expect, expect_word, has_more, is_next, is_word};
 
-#[derive(Drop)]
+#[derive(Clone, Copy)]
 pub struct MapRead {
     pub map: IndexingMap,
     pub next: Cursor,
 }
 
-#[derive(Drop)]
+#[derive(Clone, Copy)]
 struct Domain {
     bounds: Bounds,
     constraints: Constraints,

@@ -3,7 +3,7 @@ use crate::expression::read_expression;
 use reading::{Cursor, expect, is_next, one_more};
 
 // How many results there are, the numbers of nodes of the first 8, and where the next node goes.
-#[derive(Drop)]
+#[derive(Clone, Copy)]
 pub struct Results {
     pub count: usize,
     pub nodes: [usize; 8],

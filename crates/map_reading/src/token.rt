@@ -6,7 +6,7 @@ use reading::{
 };
 
 // A number from -2^63 to 2^63 - 1.
-#[derive(Drop)]
+#[derive(Clone, Copy)]
 pub struct Signed {
     pub value: i64,
     pub next: Cursor,
@@ -14,7 +14,7 @@ pub struct Signed {
 
 // A variable: the letter of its kind, its number, a number above 2^63 where that is too large, and where its token ends. The letter is
 // 0 where the next token is no variable.
-#[derive(Drop)]
+#[derive(Clone, Copy)]
 pub struct Variable {
     pub letter: u8,
     pub number: usize,

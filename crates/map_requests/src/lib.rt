@@ -1,4 +1,6 @@
 // The requests on indexing maps, and the answers to them.
+#![tactic(auto)]
+
 mod eval;
 mod maps;
 mod numbers;

@@ -4,7 +4,7 @@ use reading::{Cursor, expect, is_next, one_more};
 use writing::{put, signed, text};
 
 // How many numbers were read.
-#[derive(Drop)]
+#[derive(Clone, Copy)]
 pub struct Numbers {
     pub count: usize,
     pub next: Cursor,

@@ -1,4 +1,6 @@
 // Tables of offsets that others made: what is found in one, and which layout of a list makes it.
+#![tactic(auto)]
+
 mod listed;
 mod table;
 
@@ -14,7 +16,7 @@ pub const MAX_ELEMENTS: u64 = 4096;
 pub const MAX_LISTED: usize = 64;
 
 // Sound; the first element whose offset is outside; or the first two elements that share a cell, the earlier one first.
-#[derive(Drop)]
+#[derive(Clone, Copy)]
 pub enum Finding {
     Sound,
     Outside(Element),
@@ -22,14 +24,14 @@ pub enum Finding {
 }
 
 // The answer of judge_table.
-#[derive(Drop)]
+#[derive(Clone, Copy)]
 pub enum Judged {
     Found(Finding),
     Refused(Refusal),
 }
 
 // The answer of layout_of_table: a place in the list.
-#[derive(Drop)]
+#[derive(Clone, Copy)]
 pub enum Named {
     At(usize),
     Refused(Refusal),

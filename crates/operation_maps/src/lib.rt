@@ -1,14 +1,15 @@
 // The operations' maps: what the definitions name of the code.
+#![tactic(auto)]
 
 // From the output to the input, or from the input to the output.
-#[derive(Drop)]
+#[derive(Clone, Copy)]
 pub enum Way {
     OutputToInput,
     InputToOutput,
 }
 
 // What an operation does to one dimension: Keep(size), Flip(size), Cut(start, limit, stride), Shift(by, size).
-#[derive(Drop)]
+#[derive(Clone, Copy)]
 pub enum Axis {
     Keep(u64),
     Flip(u64),

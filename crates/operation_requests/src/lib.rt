@@ -1,4 +1,6 @@
 // The requests for the maps of operations, by name, and the answers to them.
+#![tactic(auto)]
+
 mod cuts;
 mod lists;
 mod operands;
@@ -8,7 +10,7 @@ mod ways;
 use check::same;
 use reading::Cursor;
 
-#[derive(Drop)]
+#[derive(Clone, Copy)]
 pub enum Operation {
     Elementwise,
     Broadcast,

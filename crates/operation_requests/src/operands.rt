@@ -7,7 +7,7 @@ use shape::Shape;
 use writing::error;
 
 // The operands as the line has them: how many there are, and the first shapes.
-#[derive(Drop)]
+#[derive(Clone, Copy)]
 struct OperandsRead {
     operands: Operands,
     next: Cursor,

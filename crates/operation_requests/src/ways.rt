@@ -4,7 +4,7 @@ use operations::Way;
 use reading::{Cursor, expect_hyphenated, finish, is_hyphenated};
 
 // A way, and whether it is one between the output and the initial value of a reduce.
-#[derive(Drop)]
+#[derive(Clone, Copy)]
 pub struct WayRead {
     pub way: Way,
     pub is_init: bool,

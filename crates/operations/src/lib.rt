@@ -1,4 +1,6 @@
 // The operations' maps, output to input and input to output: judged, built and folded.
+#![tactic(auto)]
+
 mod changing;
 mod joining;
 mod judging;
@@ -20,7 +22,7 @@ pub const MAX_OPERANDS: usize = 8;
 pub const MAX_STRIDE: u64 = 1048576;
 
 // The first count operands of a concatenation. What stands past them is not read.
-#[derive(Drop)]
+#[derive(Clone, Copy)]
 pub struct Operands {
     pub count: usize,
     pub shapes: [Shape; MAX_OPERANDS],

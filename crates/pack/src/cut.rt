@@ -6,7 +6,7 @@ ghost use Rattle.pack.specs.Rows.{IsCut};
 
 // The elements are cut at the coordinates of one dimension: its place in the order, its size, how many elements a coordinate spans, how many
 // steps of so many elements there are, and how many of them the widest row has.
-#[derive(Drop)]
+#[derive(Clone, Copy)]
 pub struct Cut {
     pub dimension: usize,
     pub place: usize,

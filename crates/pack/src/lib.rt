@@ -1,4 +1,6 @@
 // Packing a table into the cells of a layout and back, and storing and loading one element, over lent buffers.
+#![tactic(auto)]
+
 mod cut;
 mod loops;
 mod rows;
@@ -16,7 +18,7 @@ use refusal::{Refusal, Verdict};
 use shape::{Element, Shape};
 
 // The answer of load.
-#[derive(Drop)]
+#[derive(Clone, Copy)]
 pub enum Loaded {
     Value(u32),
     Refused(Refusal),

@@ -9,7 +9,7 @@ ghost use Rattle.tiling.specs.Row.{row_room};
 ghost use Rattle.pack.specs.Rows.{Reaches, Repeated, HasOffsets, IsSpan, offsets_from};
 
 // A row of coordinates: the offset of its first element, and how many coordinates it has.
-#[derive(Drop)]
+#[derive(Clone, Copy)]
 pub struct Row {
     pub base: u64,
     pub steps: u64,

@@ -1,4 +1,6 @@
 // The pack and unpack calls for a benchmark: a shape and a layout are read from a row of numbers and handed to the library.
+#![tactic(auto)]
+
 mod plain;
 
 use bench_rows::{ROW, layout_of, shape_of};

@@ -1,8 +1,9 @@
 // Plans through stations in a row: definitions and theorems, as they were before stations could fork, and the record of
 // a plan. An inner part of the library.
+#![tactic(auto)]
 
 // The best plan, one place a station, and its cost; zeros where no plan is found.
-#[derive(Drop)]
+#[derive(Clone, Copy)]
 pub struct Plan {
     pub found: bool,
     pub places: [usize; 64],

@@ -1,4 +1,6 @@
 // Mixed radix over slices of sizes and digits, major first. Inner functions of the library.
+#![tactic(auto)]
+
 ghost use Rattle.std.specs.Prelude.{◌≡◌, ◌++◌, ◌+◌, ◌<◌, ◌≤◌, min, length, drop};
 ghost use Rattle.radix.specs.Radix.{max_count, prod, row_major, digits, is_within, is_inside, In, Sizes};
 

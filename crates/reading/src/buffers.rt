@@ -6,7 +6,7 @@ use crate::token::{Cursor, has_more};
 const PLACES: u64 = 4096;
 
 // The lengths of the buffer that is read and of the one that is written.
-#[derive(Drop)]
+#[derive(Clone, Copy)]
 pub struct Lengths {
     pub given: u64,
     pub made: u64,

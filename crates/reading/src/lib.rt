@@ -1,4 +1,6 @@
 // Reading the line of a request: its tokens, the pieces that they make up, and the buffers that it lends. A line is any bytes.
+#![tactic(auto)]
+
 mod buffers;
 mod pieces;
 mod token;

@@ -8,14 +8,14 @@ use layout::Layout;
 use shape::Shape;
 
 // An unsigned number; a negative one is handed on as the largest.
-#[derive(Drop)]
+#[derive(Clone, Copy)]
 pub struct Unsigned {
     pub value: u64,
     pub next: Cursor,
 }
 
 // A list of numbers: how many there are, and the first 7 of them, one more than any record holds.
-#[derive(Drop)]
+#[derive(Clone, Copy)]
 pub struct List {
     pub count: usize,
     pub items: [u64; 7],
@@ -23,19 +23,19 @@ pub struct List {
 }
 
 // How many numbers there are where a lent buffer holds the first of them.
-#[derive(Drop)]
+#[derive(Clone, Copy)]
 pub struct NumbersRead {
     pub count: usize,
     pub next: Cursor,
 }
 
-#[derive(Drop)]
+#[derive(Clone, Copy)]
 pub struct ShapeRead {
     pub shape: Shape,
     pub next: Cursor,
 }
 
-#[derive(Drop)]
+#[derive(Clone, Copy)]
 pub struct LayoutRead {
     pub layout: Layout,
     pub next: Cursor,

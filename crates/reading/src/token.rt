@@ -2,14 +2,14 @@
 use check::same;
 
 // A place in a line. Once ok is false it stays at the token that cannot be read.
-#[derive(Drop)]
+#[derive(Clone, Copy)]
 pub struct Cursor {
     pub at: usize,
     pub ok: bool,
 }
 
 // A number is at most 2^63 - 1, or where it is negative at most 2^63 below zero.
-#[derive(Drop)]
+#[derive(Clone, Copy)]
 pub struct Number {
     pub negative: bool,
     pub magnitude: u64,
@@ -17,7 +17,7 @@ pub struct Number {
 }
 
 // A word is the bytes from start to end, none where start is end.
-#[derive(Drop)]
+#[derive(Clone, Copy)]
 pub struct Word {
     pub start: usize,
     pub end: usize,

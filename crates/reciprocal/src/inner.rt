@@ -4,14 +4,14 @@ ghost use Rattle.std.specs.Prelude.{◌≡◌, ◌+◌, ◌/◌, ◌%◌, ◌<�
 ghost use Rattle.reciprocal.specs.Multiplier.{max_divisor, multiplier_table, AreMultipliers};
 
 // Quotient and remainder.
-#[derive(Drop)]
+#[derive(Clone, Copy)]
 pub struct Divided {
     pub quotient: u64,
     pub remainder: u64,
 }
 
 // The table.
-#[derive(Drop)]
+#[derive(Clone, Copy)]
 pub struct MultiplierTable {
     pub at: [u64; 1024],
 }

@@ -1,4 +1,6 @@
 // Division by the numbers from 1 to 1,024 through a table of multipliers, one for each divisor.
+#![tactic(auto)]
+
 pub mod inner;
 
 ghost use Rattle.std.specs.Prelude.{◌≡◌};
@@ -11,7 +13,7 @@ use refusal::{Refusal, Verdict};
 pub const MAX_DIVISOR: u64 = 1024;
 
 // The answer of multiplier and quotient.
-#[derive(Drop)]
+#[derive(Clone, Copy)]
 pub enum Reckoned {
     Number(u64),
     Refused(Refusal),

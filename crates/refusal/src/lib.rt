@@ -1,8 +1,10 @@
 // The refusals of document 01's table, one case for each cause that a caller can tell apart.
+#![tactic(auto)]
+
 ghost use Rattle.std.specs.Prelude.{◌≡◌};
 ghost use Rattle.refusal.specs.Number.{number_of};
 
-#[derive(Drop)]
+#[derive(Clone, Copy)]
 pub enum Refusal {
     // 1: a shape breaks its limits.
     ShapeLimits,
@@ -33,7 +35,7 @@ pub enum Refusal {
 }
 
 // The answer of a call that hands back nothing else: done, or refused.
-#[derive(Drop)]
+#[derive(Clone, Copy)]
 pub enum Verdict {
     Done,
     Refused(Refusal),

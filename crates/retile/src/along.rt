@@ -10,7 +10,7 @@ ghost use Rattle.retile.specs.Rows.{IsAlong, IsRow};
 const MANY: u64 = 128;
 
 // A dimension, its places in the two orders, its size, how many elements a coordinate spans, and how many coordinates a row has at most.
-#[derive(Drop)]
+#[derive(Clone, Copy)]
 pub struct Along {
     pub dimension: usize,
     pub from: usize,

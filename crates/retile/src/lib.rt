@@ -1,4 +1,6 @@
 // Re-tiling: from a lent buffer in one layout to another in another layout, with a lent mark that says how many cells are final.
+#![tactic(auto)]
+
 mod along;
 mod run;
 mod sides;
@@ -20,7 +22,7 @@ use shape::Shape;
 use sides::Side;
 
 // The answer of retile: how many cells it settled.
-#[derive(Drop)]
+#[derive(Clone, Copy)]
 pub enum Retiled {
     Settled(u64),
     Refused(Refusal),

@@ -8,7 +8,7 @@ use refusal::{Refusal, Verdict};
 use shape::Shape;
 
 // The verdict on a shape and a layout and, where it is done, the extent, the order and the physical shape.
-#[derive(Drop)]
+#[derive(Clone, Copy)]
 pub struct Side {
     pub verdict: Verdict,
     pub extent: Extent,

@@ -5,7 +5,7 @@ ghost use Rattle.retile.specs.Stores.{memory, apply, apply_all, stores};
 ghost use Rattle.retile.specs.Steps.{next_store, turned, listed};
 
 // Whose store is next: that of the cell at the mark, or the mark's.
-#[derive(Drop)]
+#[derive(Clone, Copy)]
 pub enum Phase {
     Cell,
     Mark,

@@ -1,4 +1,6 @@
 // The retile call for a benchmark: a shape and two layouts are read from two rows of numbers and handed to the library.
+#![tactic(auto)]
+
 use bench_rows::{ROW, layout_of, shape_of};
 use retile::Retiled;
 

@@ -5,7 +5,7 @@ use reading::{
 };
 use shape::Shape;
 
-#[derive(Drop)]
+#[derive(Clone, Copy)]
 pub struct Arguments {
     pub shape: Shape,
     // The layouts of the source and of the destination.
@@ -20,7 +20,7 @@ pub struct Arguments {
 }
 
 // A run: the mark that it finds, and its allowance.
-#[derive(Drop)]
+#[derive(Clone, Copy)]
 pub struct Run {
     pub mark: u64,
     pub allowance: u64,

@@ -1,4 +1,6 @@
 // The request `retile`: a shape, the layouts of source and destination, the runs, and the lengths lent.
+#![tactic(auto)]
+
 mod arguments;
 mod runs;
 

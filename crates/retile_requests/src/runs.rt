@@ -6,7 +6,7 @@ use retile::{Retiled, retile};
 use writing::spaced;
 
 // What the runs made so far leave: the last mark, where the next run starts in the line, and the next place in the output.
-#[derive(Drop)]
+#[derive(Clone, Copy)]
 pub struct Made {
     pub mark: u64,
     pub next: Cursor,

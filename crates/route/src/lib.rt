@@ -1,4 +1,6 @@
 // A route through stations that form a tree: the cheapest plan of layouts within a cell limit and a limit on moves.
+#![tactic(auto)]
+
 mod load;
 mod repeats;
 mod same;
@@ -25,7 +27,7 @@ pub const MAX_MOVES: usize = 63;
 
 // The earlier station that feeds a station, and the layouts that it accepts, the first count of them. What stands past
 // them, and the first station's parent, is not read.
-#[derive(Drop)]
+#[derive(Clone, Copy)]
 pub struct Station {
     pub parent: usize,
     pub count: usize,
@@ -33,7 +35,7 @@ pub struct Station {
 }
 
 // The answer of best_route: a place for each station, 0 in the unused ones, and the plan's cost; zeros when refused.
-#[derive(Drop)]
+#[derive(Clone, Copy)]
 pub struct Route {
     pub verdict: Verdict,
     pub places: [usize; 64],

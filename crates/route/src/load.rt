@@ -12,7 +12,7 @@ use shape::Shape;
 
 // Whether the numbers (counts and parents), the layouts and the padded sizes keep their rules; the first layout that
 // stands twice in a list; and the planner's tables.
-#[derive(Drop)]
+#[derive(Clone, Copy)]
 pub struct Loaded {
     pub numbers_kept: bool,
     pub layouts_kept: bool,

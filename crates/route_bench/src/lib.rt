@@ -1,5 +1,7 @@
 // The route call for a benchmark: stations made from a seed, in a chain, a star or a random tree, planned by the
 // library.
+#![tactic(auto)]
+
 use layout::Layout;
 use refusal::Verdict;
 use route::Station;
@@ -35,7 +37,7 @@ fn next(state: u64) -> u64 {
     (state % 2147483648 * 1103515245 + 12345) % 2147483648
 }
 
-#[derive(Drop)]
+#[derive(Clone, Copy)]
 pub struct Made {
     pub station: Station,
     pub state: u64,

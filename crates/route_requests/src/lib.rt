@@ -1,5 +1,7 @@
 // The requests `route` and `tree`: a shape, a cell limit, a limit on moves, and the stations: their layouts, in a tree
 // behind the number of the parent.
+#![tactic(auto)]
+
 use reading::{
     Cursor, expect, finish, is_next, no_layout, one_more, read_layout, read_shape, read_unsigned,
 };
@@ -9,14 +11,14 @@ use shape::Shape;
 use writing::{error, labelled, refused, spaced, text};
 
 // A station as the line has it: its count, and the first 8 layouts.
-#[derive(Drop)]
+#[derive(Clone, Copy)]
 struct StationRead {
     station: Station,
     next: Cursor,
 }
 
 // The stations as the line has them: how many there are, and the first 64 of them.
-#[derive(Drop)]
+#[derive(Clone, Copy)]
 struct StationsRead {
     stations: [Station; 64],
     number: usize,
@@ -24,14 +26,14 @@ struct StationsRead {
 }
 
 // A station's parent.
-#[derive(Drop)]
+#[derive(Clone, Copy)]
 struct ParentRead {
     parent: usize,
     next: Cursor,
 }
 
 // What stands before the stations.
-#[derive(Drop)]
+#[derive(Clone, Copy)]
 struct Limits {
     shape: Shape,
     cells: u64,

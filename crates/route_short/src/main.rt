@@ -1,6 +1,8 @@
 // Shows number 9 of a route: a list of stations that is one record short, and the same list whole; and that a layout
 // that stands twice and a parent that is not earlier are judged before it, on the records lent, the first one's parent
 // not at all.
+#![tactic(auto)]
+
 use layout::Layout;
 use libc::STDOUT_FILENO;
 use refusal::Verdict;

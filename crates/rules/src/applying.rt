@@ -17,7 +17,7 @@ const MAX_TERMS: usize = 65536;
 const MAX_MULTIPLE: u64 = (1 << 62) + (1 << 40);
 
 // Where rule 2 fits: a limit is passed by some R tried; at g with q; or nowhere.
-#[derive(Drop)]
+#[derive(Clone, Copy)]
 pub enum Found {
     Passed,
     At(i64, i64),
@@ -25,7 +25,7 @@ pub enum Found {
 }
 
 // The two ends of a range.
-#[derive(Drop)]
+#[derive(Clone, Copy)]
 pub struct Ends {
     pub lo: i64,
     pub hi: i64,

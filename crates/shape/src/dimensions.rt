@@ -7,7 +7,7 @@ ghost use Rattle.shape.specs.Dimensions.{place, in_range, first_pair, first_repe
 use refusal::{Refusal, Verdict};
 
 // Two places of a list that hold the same, the earlier one first.
-#[derive(Drop)]
+#[derive(Clone, Copy)]
 pub enum Pair {
     At(usize, usize),
     Nowhere,

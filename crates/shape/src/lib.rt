@@ -1,4 +1,6 @@
 // Shapes, elements and points, and lists of dimensions.
+#![tactic(auto)]
+
 mod dimensions;
 pub mod inner;
 
@@ -13,39 +15,39 @@ use refusal::{Refusal, Verdict};
 pub const MAX_RANK: usize = 6;
 
 // The sizes of the first rank dimensions, major first. What stands past them is not read.
-#[derive(Drop)]
+#[derive(Clone, Copy)]
 pub struct Shape {
     pub rank: usize,
     pub sizes: [u64; 6],
 }
 
 // The number of a logical element, in row-major order.
-#[derive(Drop)]
+#[derive(Clone, Copy)]
 pub struct Element(pub u64);
 
 // The coordinates of the first rank dimensions, and 0 past them.
-#[derive(Drop)]
+#[derive(Clone, Copy)]
 pub struct Point {
     pub rank: usize,
     pub coordinates: [u64; 6],
 }
 
 // The answer of element_count.
-#[derive(Drop)]
+#[derive(Clone, Copy)]
 pub enum Counted {
     Elements(u64),
     Refused(Refusal),
 }
 
 // The answer of element_number.
-#[derive(Drop)]
+#[derive(Clone, Copy)]
 pub enum Numbered {
     At(Element),
     Refused(Refusal),
 }
 
 // The answer of element_point: zeros when refused.
-#[derive(Drop)]
+#[derive(Clone, Copy)]
 pub struct Located {
     pub verdict: Verdict,
     pub point: Point,

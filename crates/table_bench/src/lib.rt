@@ -1,5 +1,7 @@
 // The calls on tables of offsets for a benchmark: a shape and layouts are read from rows of numbers and handed to the
 // library.
+#![tactic(auto)]
+
 use bench_rows::{ROW, layout_of, shape_of};
 use layout::Layout;
 use offset_table::{Finding, Judged, Named};

@@ -1,5 +1,7 @@
 // The requests on tables of offsets: `table`, with a shape, a padded size and the offsets, and `which`, with layouts
 // behind them.
+#![tactic(auto)]
+
 use layout::Layout;
 use offset_table::{Finding, Judged, Named};
 use reading::{
@@ -10,7 +12,7 @@ use shape::Shape;
 use writing::{error, labelled, refused, spaced, text};
 
 // What stands before the layouts: a shape, a padded size, and how many offsets the table has; a buffer holds the first.
-#[derive(Drop)]
+#[derive(Clone, Copy)]
 struct TableRead {
     shape: Shape,
     padded: u64,
@@ -19,7 +21,7 @@ struct TableRead {
 }
 
 // The layouts as the line has them: how many there are, and the first 64 of them.
-#[derive(Drop)]
+#[derive(Clone, Copy)]
 struct LayoutsRead {
     layouts: [Layout; 64],
     count: usize,

@@ -1,4 +1,6 @@
 // Tiles over lists of sizes: the physical shape, the offset of an element, and what a cell holds. Inner functions of the library.
+#![tactic(auto)]
+
 mod cell;
 mod lists;
 mod physical;

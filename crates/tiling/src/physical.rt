@@ -10,7 +10,7 @@ ghost use Rattle.tiling.specs.Ready.{Under, Levels, Ready, IsPhysical};
 use reciprocal::inner;
 
 // A physical shape or index: at most 24 numbers, major first.
-#[derive(Drop)]
+#[derive(Clone, Copy)]
 pub struct Physical {
     pub len: usize,
     pub at: [u64; 24],

@@ -11,7 +11,7 @@ use inner::Divided;
 use reciprocal::inner;
 
 // A coordinate at a place of the physical index, in units of scale, and how many a row has at most from it on.
-#[derive(Drop)]
+#[derive(Clone, Copy)]
 pub struct Reach {
     pub place: usize,
     pub coordinate: u64,

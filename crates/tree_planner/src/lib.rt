@@ -1,5 +1,7 @@
 // The planner over a tree of stations: rows of least weights, each station's merged into its parent's, the last first.
 // Inner functions of the library.
+#![tactic(auto)]
+
 ghost use Rattle.std.specs.Prelude.{◌≡◌, ℕ, ◌+◌, ◌*◌, ◌-◌, ◌<◌, ◌≤◌, ◌^◌, min, length, get_or, ltb};
 ghost use Rattle.plan.specs.Net.{price};
 ghost use Rattle.plan.specs.Answer.{spread};
@@ -41,7 +43,7 @@ const BASE: u64 = 9223372036854775808;
 const FAR: u64 = 1152921504606846976;
 
 // A plan's cost, then its places as digits in base 8: 8 times the cost and the first place, then 21 places to a word.
-#[derive(Drop)]
+#[derive(Clone, Copy)]
 struct Weight {
     top: u64,
     high: u64,
@@ -50,7 +52,7 @@ struct Weight {
 }
 
 // Parents, counts of places, padded sizes at i * 8 + place, and moves, 0 or 1, at (i * 8 + parent's place) * 8 + place.
-#[derive(Drop)]
+#[derive(Clone, Copy)]
 pub struct TreeTables {
     pub parents: [usize; MAX_STATIONS],
     pub counts: [usize; MAX_STATIONS],

@@ -1,4 +1,6 @@
 // The folded sum of one tree, from its nodes in postfix order. Inner functions of the library.
+#![tactic(auto)]
+
 ghost use Rattle.std.specs.Prelude.{◌≡◌, [], ◌∷◌, ◌<◌, ◌≤◌, pos, length};
 ghost use Rattle.expression.specs.Node.{max_variables, Divisor, SoundLeaf, SoundOne};
 ghost use Rattle.expression.specs.Value.{bounds};
@@ -19,7 +21,7 @@ const FUEL: u64 = 1 << 52;
 
 // The folded sum of a tree: whether every sum formed keeps the limits, the place of the tree's first node, and the sum's number of terms and
 // its end.
-#[derive(Drop)]
+#[derive(Clone, Copy)]
 pub struct TreeSum {
     pub small: bool,
     pub begin: usize,

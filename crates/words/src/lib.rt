@@ -1,4 +1,6 @@
 // Folded sums as words in arrays: made, merged, and their reckoned ranges. Inner functions of the library.
+#![tactic(auto)]
+
 mod making;
 mod merging;
 mod numbers;
@@ -14,14 +16,14 @@ pub use ranges::{reckon, try_at};
 pub use writing::{copy, put};
 
 // A sum that was written: its number of terms, and the place past it.
-#[derive(Drop)]
+#[derive(Clone, Copy)]
 pub struct Made {
     pub n: usize,
     pub at: usize,
 }
 
 // Whether the limits are kept, and then the ends of a range.
-#[derive(Drop)]
+#[derive(Clone, Copy)]
 pub struct Reckoned {
     pub ok: bool,
     pub lo: i64,
@@ -29,7 +31,7 @@ pub struct Reckoned {
 }
 
 // Whether R keeps the limits, whether it lies between two neighbouring multiples of g, and which.
-#[derive(Drop)]
+#[derive(Clone, Copy)]
 pub struct Tried {
     pub ok: bool,
     pub fit: bool,

@@ -1,5 +1,7 @@
 // The output: bytes are put at a place of a buffer, which is written out when it is full. Each
 // function takes the place and answers the next one.
+#![tactic(auto)]
+
 use libc::STDOUT_FILENO;
 use refusal::Refusal;
 

@@ -9,21 +9,21 @@ const LONGEST: usize = 65535;
 
 // What is held of the present line: its bytes as far as the buffer has room, and whether all of
 // its bytes are spaces.
-#[derive(Drop)]
+#[derive(Clone, Copy)]
 pub struct Line {
     pub length: usize,
     pub blank: bool,
 }
 
 // What a piece of the input leaves: the line that it ends in, and the place in the output.
-#[derive(Drop)]
+#[derive(Clone, Copy)]
 pub struct Fed {
     pub line: Line,
     pub at: usize,
 }
 
 // What a read leaves: the line that it ends in, and whether there was any input.
-#[derive(Drop)]
+#[derive(Clone, Copy)]
 pub struct Turn {
     pub line: Line,
     pub more: bool,

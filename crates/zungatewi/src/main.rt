@@ -1,4 +1,6 @@
 // The program: answers the requests on standard input, one to a line, by the library's calls.
+#![tactic(auto)]
+
 mod input;
 mod request;
 

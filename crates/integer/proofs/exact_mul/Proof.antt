@@ -11,51 +11,51 @@ use Rattle.integer.proofs.Limits.{exact-in, exact-out, product-in, product-out}
 use Rattle.integer.proofs.exact_mul.Statement.{statement}
 use Rattle.integer.proofs.exact_mul.Tie as tie
 
-magnitude-requires : tie.Need-magnitude-requires
+magnitude-requires : tie.Need-magnitude-x-requires
 magnitude-requires c κs = search rules
 
-magnitude-requires-2 : tie.Need-magnitude-requires-2
+magnitude-requires-2 : tie.Need-magnitude-y-requires
 magnitude-requires-2 c κs = search rules
 
-returns : tie.Need-returns
+returns : tie.Need-returns-then-x-eq0
 returns c =
     let s = c.before.before.before in
-    let x = rw (to_z-of_z s.ranges.a) at c.before.before.magnitude.ensures in
-    rw (abs-zero s.args.a (sym x ∙ c.if1.true), zero-*ℤ s.args.b) (sym (exact-in (pos 0) (omega arith)))
+    let x = rw (to_z-of_z s.ranges.a) at c.before.before.magnitude-x.ensures in
+    rw (abs-zero s.args.a (sym x ∙ c.if-x-eq0.true), zero-*ℤ s.args.b) (sym (exact-in (pos 0) (omega arith)))
 
-cast-if2 : tie.Need-overflow-cast-if2
+cast-if2 : tie.Need-overflow_cast-t-7
 cast-if2 c = search rules
 
-div-if2 : tie.Need-nonzero-div-if2
+div-if2 : tie.Need-nonzero_div-x
 div-if2 c = search rules
 
-returns-2 : tie.Need-returns-2
+returns-2 : tie.Need-returns-then-x-y
 returns-2 c =
     let s = c.before.before.before.before in
-    let x = rw (to_z-of_z s.ranges.a) at c.before.before.before.magnitude.ensures in
-    let y = rw (to_z-of_z s.ranges.b) at c.before.before.magnitude2.ensures in
-    let h = rw (x, y) at (product-out limit _ _ c.before.if1.false c.if2.true) in
+    let x = rw (to_z-of_z s.ranges.a) at c.before.before.before.magnitude-x.ensures in
+    let y = rw (to_z-of_z s.ranges.b) at c.before.before.magnitude-y.ensures in
+    let h = rw (x, y) at (product-out limit _ _ c.before.if-x-eq0.false c.if-x-y.true) in
     sym (exact-out (s.args.a *ℤ s.args.b) (rw abs-mul h))
 
-mul-with-sign : tie.Need-overflow-mul-with-sign
-mul-with-sign c = record { fits = omega (arith, product-in limit _ _ c.before.if1.false c.if2.false) }
+mul-with-sign : tie.Need-overflow_mul-x
+mul-with-sign c = record { fits = omega (arith, product-in limit _ _ c.before.if-x-eq0.false c.if-x-y.false) }
 
-with-sign-requires : tie.Need-with-sign-requires
-with-sign-requires c κs = product-in limit _ _ c.before.if1.false c.if2.false
+with-sign-requires : tie.Need-with_sign-requires
+with-sign-requires c κs = product-in limit _ _ c.before.if-x-eq0.false c.if-x-y.false
 
-returns-3 : tie.Need-returns-3
+returns-3 : tie.Need-returns
 returns-3 c =
     let k = c.before in
     let s = k.before.before.before.before in
-    let x = rw (to_z-of_z s.ranges.a) at k.before.before.before.magnitude.ensures in
-    let y = rw (to_z-of_z s.ranges.b) at k.before.before.magnitude2.ensures in
-    let h = rw (x, y) at (product-in limit _ _ k.before.if1.false k.if2.false) in
-    let e = simp (x, y, to_z-of_z s.ranges.a, to_z-of_z s.ranges.b) at c.with-sign.ensures in
-    ap Value (to_z-of_z (sfits_of c.with-sign.type-inv) ∙ e ∙ mul-signed s.args.a s.args.b)
+    let x = rw (to_z-of_z s.ranges.a) at k.before.before.before.magnitude-x.ensures in
+    let y = rw (to_z-of_z s.ranges.b) at k.before.before.magnitude-y.ensures in
+    let h = rw (x, y) at (product-in limit _ _ k.before.if-x-eq0.false k.if-x-y.false) in
+    let e = simp (x, y, to_z-of_z s.ranges.a, to_z-of_z s.ranges.b) at c.with_sign.ensures in
+    ap Value (to_z-of_z (sfits_of c.with_sign.type-inv) ∙ e ∙ mul-signed s.args.a s.args.b)
     ∙ sym (exact-in (s.args.a *ℤ s.args.b) (rw abs-mul h))
 
-pub exact-mul-spec : {M : Type 1} → statement M
-exact-mul-spec =
+pub exact_mul_spec : {M : Type 1} → statement M
+exact_mul_spec =
     tie.close
     (tie.spec
     magnitude-requires

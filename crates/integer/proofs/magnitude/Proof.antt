@@ -34,43 +34,43 @@ module _ {a : ℤ} (A : SFits w64 a) (t : lt_z (held a) (pos 0) ≡ true) where
   one_more : nat_abs a - 1 + 1 ≡ nat_abs a
   one_more = omega (lin, below, abs-parts a)
 
-add-result : tie.Need-overflow-add-result
-add-result c = next_fits c.before.ranges.a c.if1.true
+add-result : tie.Need-overflow_add-result
+add-result c = next_fits c.before.ranges.a c.if-a-lt0.true
 
-sub-result : tie.Need-overflow-sub-result
-sub-result c = opposite-fits c.before.ranges.a c.if1.true
+sub-result : tie.Need-overflow_sub-result
+sub-result c = opposite-fits c.before.ranges.a c.if-a-lt0.true
 
-cast-result : tie.Need-overflow-cast-result
+cast-result : tie.Need-overflow_cast-result
 cast-result c =
     let s = c.before in
-    rw (opposite-held s.ranges.a c.if1.true)
+    rw (opposite-held s.ranges.a c.if-a-lt0.true)
     (tt, record { fits = omega (arith, nat_abs-le s.args.a s.ranges.a.sfits) })
 
-add-result-2 : tie.Need-overflow-add-result-2
+add-result-2 : tie.Need-overflow_add-result-then-a-lt0
 add-result-2 c =
     let s = c.before in
-    rw (opposite-held s.ranges.a c.if1.true)
+    rw (opposite-held s.ranges.a c.if-a-lt0.true)
     (record { fits = omega (arith, nat_abs-le s.args.a s.ranges.a.sfits) })
 
-cast-result-2 : tie.Need-overflow-cast-result-2
+cast-result-2 : tie.Need-overflow_cast-result-else-a-lt0
 cast-result-2 c =
     let s = c.before in
-    let t = rw (to_z-of_z s.ranges.a) at c.if1.false in
+    let t = rw (to_z-of_z s.ranges.a) at c.if-a-lt0.false in
     rw (to_z-of_z s.ranges.a) (
       yes_non_neg (parts-≤ (pos 0) s.args.a (omega lin)),
       record { fits = omega (arith, nat_abs-le s.args.a s.ranges.a.sfits) },
     )
 
-returns : tie.Need-returns
+returns : tie.Need-returns-then-a-lt0
 returns c =
     let s = c.before in
-    rw (opposite-held s.ranges.a c.if1.true) (one_more s.ranges.a c.if1.true)
+    rw (opposite-held s.ranges.a c.if-a-lt0.true) (one_more s.ranges.a c.if-a-lt0.true)
 
-returns-2 : tie.Need-returns-2
+returns-2 : tie.Need-returns-else-a-lt0
 returns-2 c = search rules
 
-pub magnitude-spec : {M : Type 1} → statement M
-magnitude-spec =
+pub magnitude_spec : {M : Type 1} → statement M
+magnitude_spec =
     tie.close
     (tie.spec
     add-result

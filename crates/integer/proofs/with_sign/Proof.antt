@@ -18,20 +18,20 @@ module _ (m : ℕ) (h : m ≤ limit) where
   opposite : pos 0 -ℤ to_z w64 m ≡ neg_ℤ (pos m)
   opposite = rw (read, +ℤ_idl)
 
-cast-z : tie.Need-overflow-cast-z
+cast-z : tie.Need-overflow_cast-z
 cast-z c = record { sfits = omega arith }
 
-sub-result : tie.Need-overflow-sub-result
+sub-result : tie.Need-overflow_sub-result
 sub-result c =
     let m = c.before.args.m in
     subst⁻¹ (SFits w64) (opposite m c.before.requires)
     (fits_by (neg_ℤ (pos m)) (omega (arith, up_neg (pos m), dn-neg (pos m))))
 
-returns : tie.Need-returns
-returns c = rw c.if1.true (to_z-of_z (sub-result c) ∙ opposite c.before.args.m c.before.requires)
+returns : tie.Need-returns-then-negative
+returns c = rw c.if-negative.true (to_z-of_z (sub-result c) ∙ opposite c.before.args.m c.before.requires)
 
-returns-2 : tie.Need-returns-2
-returns-2 c = rw c.if1.false (read c.before.args.m c.before.requires)
+returns-2 : tie.Need-returns-else-negative
+returns-2 c = rw c.if-negative.false (read c.before.args.m c.before.requires)
 
-pub with-sign-spec : {M : Type 1} → statement M
-with-sign-spec = tie.close (tie.spec cast-z sub-result returns returns-2)
+pub with_sign_spec : {M : Type 1} → statement M
+with_sign_spec = tie.close (tie.spec cast-z sub-result returns returns-2)

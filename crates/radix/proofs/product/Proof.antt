@@ -10,54 +10,54 @@ use Rattle.radix.proofs.Loops.{prod-rest, prod-end, rest-pos}
 use Rattle.radix.proofs.product.Statement.{statement}
 use Rattle.radix.proofs.product.Tie as tie
 
-abbrev invariant-loop : tie.invariant-loop
+abbrev invariant-loop : tie.invariant-loop-i
 invariant-loop ds acc₀ i₀ acc i = (i ≤ length ds) × (acc ≤ max_count) × (acc * prod (drop i ds) ≡ prod ds)
 
-abbrev decreases-loop : tie.decreases-loop
+abbrev decreases-loop : tie.decreases-loop-i
 decreases-loop ds acc₀ i₀ acc i = length ds - i
 
-loop-holds : tie.Need-loop-init invariant-loop decreases-loop
+loop-holds : tie.Need-loop-i-init invariant-loop decreases-loop
 loop-holds c = (search rules, search rules, one-mul (prod c.args.ds.now))
 
-mul-acc : tie.Need-overflow-mul-acc invariant-loop decreases-loop
+mul-acc : tie.Need-offset_bounds-ds-i invariant-loop decreases-loop
 mul-acc c = search rules
 
-shared-slice-read-acc : tie.Need-shared-slice-read-acc invariant-loop decreases-loop
+shared-slice-read-acc : tie.Need-bounds-ds-i invariant-loop decreases-loop
 shared-slice-read-acc c = search rules
 
-mul-acc-2 : tie.Need-overflow-mul-acc-2 invariant-loop decreases-loop
+mul-acc-2 : tie.Need-overflow_mul-acc invariant-loop decreases-loop
 unfolding Bounded
 mul-acc-2 c =
-    Fits-le (mul-le-mul c.before.before.loop.invariant.1 (c.before.before.before.requires c.before.before.loop.i c.before.loop-test.true).1) (Fits-lit tt)
+    Fits-le (mul-le-mul c.before.before.loop-i.invariant.1 (c.before.before.before.requires c.before.before.loop-i.i c.before.loop-i-test.true).1) (Fits-lit tt)
 
-returns : tie.Need-returns invariant-loop decreases-loop
+returns : tie.Need-returns-then-acc-gt-MAX_COUNT invariant-loop decreases-loop
 returns c =
     let l = c.before.before.before in
     let ds = l.before.args.ds.now in
-    let i = l.loop.i in
-    let e = prod-rest ds l.loop.acc i c.before.before.loop-test.true in
-    let g = le-mul_of_pos_right (l.loop.acc * get_or ds i 0) (rest-pos ds (i + 1) l.before.requires) in
+    let i = l.loop-i.i in
+    let e = prod-rest ds l.loop-i.acc i c.before.before.loop-i-test.true in
+    let g = le-mul_of_pos_right (l.loop-i.acc * get_or ds i 0) (rest-pos ds (i + 1) l.before.requires) in
     sym (min-eq_right (omega (arith, e, g)))
 
-add-i : tie.Need-overflow-add-i invariant-loop decreases-loop
+add-i : tie.Need-overflow_add-i invariant-loop decreases-loop
 add-i c = search rules
 
-loop-less : tie.Need-loop-smaller invariant-loop decreases-loop
+loop-less : tie.Need-loop-i-smaller invariant-loop decreases-loop
 loop-less c = search rules
 
-loop-again : tie.Need-loop-preserved invariant-loop decreases-loop
+loop-again : tie.Need-loop-i-preserved invariant-loop decreases-loop
 loop-again c =
     let l = c.before.before.before in
-    (search rules, search rules, sym (prod-rest l.before.args.ds.now l.loop.acc l.loop.i c.before.before.loop-test.true) ∙ l.loop.invariant.2)
+    (search rules, search rules, sym (prod-rest l.before.args.ds.now l.loop-i.acc l.loop-i.i c.before.before.loop-i-test.true) ∙ l.loop-i.invariant.2)
 
-returns-2 : tie.Need-returns-2 invariant-loop decreases-loop
+returns-2 : tie.Need-returns invariant-loop decreases-loop
 returns-2 c =
     let l = c.before in
-    let e = sym (prod-end l.before.args.ds.now l.loop.acc l.loop.i c.loop-test.false) ∙ l.loop.invariant.2 in
+    let e = sym (prod-end l.before.args.ds.now l.loop-i.acc l.loop-i.i c.loop-i-test.false) ∙ l.loop-i.invariant.2 in
     e ∙ sym (min-eq_left (omega (arith, e)))
 
-pub product-spec : {M : Type 1} → statement M
-product-spec =
+pub product_spec : {M : Type 1} → statement M
+product_spec =
     tie.close
     (tie.spec
     invariant-loop

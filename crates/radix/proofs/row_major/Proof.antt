@@ -10,60 +10,60 @@ use Rattle.radix.proofs.Loops.{row-rest, row-end, row-turn}
 use Rattle.radix.proofs.row_major.Statement.{statement}
 use Rattle.radix.proofs.row_major.Tie as tie
 
-abbrev invariant-loop : tie.invariant-loop
+abbrev invariant-loop : tie.invariant-loop-i
 invariant-loop ds es acc₀ i₀ acc i = (i ≤ length ds) × (acc * prod (drop i ds) + row_major (drop i ds) (drop i es) ≡ row_major ds es)
 
-abbrev decreases-loop : tie.decreases-loop
+abbrev decreases-loop : tie.decreases-loop-i
 decreases-loop ds es acc₀ i₀ acc i = length ds - i
 
-loop-holds : tie.Need-loop-init invariant-loop decreases-loop
+loop-holds : tie.Need-loop-i-init invariant-loop decreases-loop
 loop-holds c = (search rules, simp (zero-mul, zero-add))
 
 -- a turn's number is at most the answer, which is below 2^40
-turn : (c : tie.In-loop invariant-loop decreases-loop) → c.before.loop.acc * get_or c.before.before.args.ds.now c.before.loop.i 0 + get_or c.before.before.args.es.now c.before.loop.i 0 < max_count
+turn : (c : tie.In-loop-i invariant-loop decreases-loop) → c.before.loop-i.acc * get_or c.before.before.args.ds.now c.before.loop-i.i 0 + get_or c.before.before.args.es.now c.before.loop-i.i 0 < max_count
 turn c =
     let s = c.before.before in
-    omega (arith, below s.requires.0, row-turn s.args.ds.now s.args.es.now c.before.loop.acc c.before.loop.i s.requires.0 c.loop-test.true c.before.loop.invariant.1)
+    omega (arith, below s.requires.0, row-turn s.args.ds.now s.args.es.now c.before.loop-i.acc c.before.loop-i.i s.requires.0 c.loop-i-test.true c.before.loop-i.invariant.1)
 
-mul-acc : tie.Need-overflow-mul-acc invariant-loop decreases-loop
+mul-acc : tie.Need-offset_bounds-ds-i invariant-loop decreases-loop
 mul-acc c = search rules
 
-shared-slice-read-acc : tie.Need-shared-slice-read-acc invariant-loop decreases-loop
+shared-slice-read-acc : tie.Need-bounds-ds-i invariant-loop decreases-loop
 shared-slice-read-acc c = search rules
 
-mul-acc-2 : tie.Need-overflow-mul-acc-2 invariant-loop decreases-loop
+mul-acc-2 : tie.Need-overflow_mul-acc invariant-loop decreases-loop
 mul-acc-2 c = omega (arith, turn c.before)
 
-mul-acc-3 : tie.Need-overflow-mul-acc-3 invariant-loop decreases-loop
+mul-acc-3 : tie.Need-offset_bounds-es-i invariant-loop decreases-loop
 mul-acc-3 c = search rules
 
-inside : (c : tie.In-loop invariant-loop decreases-loop) → c.before.loop.i < length c.before.before.args.es.now
+inside : (c : tie.In-loop-i invariant-loop decreases-loop) → c.before.loop-i.i < length c.before.before.args.es.now
 inside c = omega (arith, in-length c.before.before.requires.0)
 
-shared-slice-read-acc-2 : tie.Need-shared-slice-read-acc-2 invariant-loop decreases-loop
+shared-slice-read-acc-2 : tie.Need-bounds-es-i invariant-loop decreases-loop
 shared-slice-read-acc-2 c = inside c.before.before
 
-add-acc : tie.Need-overflow-add-acc invariant-loop decreases-loop
+add-acc : tie.Need-overflow_add-acc invariant-loop decreases-loop
 add-acc c = omega (arith, turn c.before.before)
 
-add-i : tie.Need-overflow-add-i invariant-loop decreases-loop
+add-i : tie.Need-overflow_add-i invariant-loop decreases-loop
 add-i c = search rules
 
-loop-less : tie.Need-loop-smaller invariant-loop decreases-loop
+loop-less : tie.Need-loop-i-smaller invariant-loop decreases-loop
 loop-less c = search rules
 
-loop-again : tie.Need-loop-preserved invariant-loop decreases-loop
+loop-again : tie.Need-loop-i-preserved invariant-loop decreases-loop
 loop-again c =
     let l = c.before.before.before in
-    (search rules, sym (row-rest l.before.args.ds.now l.before.args.es.now l.loop.acc l.loop.i c.before.before.loop-test.true (inside c.before.before)) ∙ l.loop.invariant.1)
+    (search rules, sym (row-rest l.before.args.ds.now l.before.args.es.now l.loop-i.acc l.loop-i.i c.before.before.loop-i-test.true (inside c.before.before)) ∙ l.loop-i.invariant.1)
 
 returns : tie.Need-returns invariant-loop decreases-loop
 returns c =
     let l = c.before in
-    sym (row-end l.before.args.ds.now l.before.args.es.now l.loop.acc l.loop.i c.loop-test.false) ∙ l.loop.invariant.1
+    sym (row-end l.before.args.ds.now l.before.args.es.now l.loop-i.acc l.loop-i.i c.loop-i-test.false) ∙ l.loop-i.invariant.1
 
-pub row-major-spec : {M : Type 1} → statement M
-row-major-spec =
+pub row_major_spec : {M : Type 1} → statement M
+row_major_spec =
     tie.close
     (tie.spec
     invariant-loop

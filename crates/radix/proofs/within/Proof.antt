@@ -13,70 +13,70 @@ use Rattle.radix.proofs.Tests.{and-true, and-false, every-all, every-not}
 use Rattle.radix.proofs.within.Statement.{statement}
 use Rattle.radix.proofs.within.Tie as tie
 
-abbrev invariant-loop : tie.invariant-loop
+abbrev invariant-loop : tie.invariant-loop-i
 invariant-loop xs most i₀ i = (i ≤ length xs) × ((k : ℕ) → k < i → (leb 1 (get_or xs k 0) && leb (get_or xs k 0) most) ≡ true)
 
-abbrev decreases-loop : tie.decreases-loop
+abbrev decreases-loop : tie.decreases-loop-i
 decreases-loop xs most i₀ i = length xs - i
 
-loop-holds : tie.Need-loop-init invariant-loop decreases-loop
+loop-holds : tie.Need-loop-i-init invariant-loop decreases-loop
 loop-holds c = (search rules, below_none _)
 
-mul-if1 : tie.Need-overflow-mul-if1 invariant-loop decreases-loop
+mul-if1 : tie.Need-offset_bounds-xs-i invariant-loop decreases-loop
 mul-if1 c = search rules
 
-shared-slice-read-if1 : tie.Need-shared-slice-read-if1 invariant-loop decreases-loop
+shared-slice-read-if1 : tie.Need-bounds-xs-i invariant-loop decreases-loop
 shared-slice-read-if1 c = search rules
 
 -- the test of an entry
 abbrev ok : ℕ → List ℕ → ℕ → Bool
 ok most xs k = leb 1 (get_or xs k 0) && leb (get_or xs k 0) most
 
-returns : tie.Need-returns invariant-loop decreases-loop
+returns : tie.Need-returns-then-xs-i-lt1 invariant-loop decreases-loop
 unfolding is_within
 returns c =
     let l = c.before.before.before in
     let a = l.before.args in
-    sym (every-not (ok a.most a.xs.now) (length a.xs.now) l.loop.i c.before.before.loop-test.true (rw (lt-leb 1 (get_or a.xs.now l.loop.i 0) c.if1.true)))
+    sym (every-not (ok a.most a.xs.now) (length a.xs.now) l.loop-i.i c.before.before.loop-i-test.true (rw (lt-leb 1 (get_or a.xs.now l.loop-i.i 0) c.if-xs-i-lt1.true)))
 
-mul-if2 : tie.Need-overflow-mul-if2 invariant-loop decreases-loop
+mul-if2 : tie.Need-offset_bounds-xs-i-in-loop-i invariant-loop decreases-loop
 mul-if2 c = search rules
 
-shared-slice-read-if2 : tie.Need-shared-slice-read-if2 invariant-loop decreases-loop
+shared-slice-read-if2 : tie.Need-bounds-xs-i-in-loop-i invariant-loop decreases-loop
 shared-slice-read-if2 c = search rules
 
-returns-2 : tie.Need-returns-2 invariant-loop decreases-loop
+returns-2 : tie.Need-returns-then-most-xs invariant-loop decreases-loop
 unfolding is_within
 returns-2 c =
     let l = c.before.before.before.before.before in
     let a = l.before.args in
-    sym (every-not (ok a.most a.xs.now) (length a.xs.now) l.loop.i c.before.before.before.before.loop-test.true
-    (and-false (leb 1 (get_or a.xs.now l.loop.i 0)) (lt-leb (get_or a.xs.now l.loop.i 0) a.most c.if2.true)))
+    sym (every-not (ok a.most a.xs.now) (length a.xs.now) l.loop-i.i c.before.before.before.before.loop-i-test.true
+    (and-false (leb 1 (get_or a.xs.now l.loop-i.i 0)) (lt-leb (get_or a.xs.now l.loop-i.i 0) a.most c.if-most-xs.true)))
 
-add-i : tie.Need-overflow-add-i invariant-loop decreases-loop
+add-i : tie.Need-overflow_add-i invariant-loop decreases-loop
 add-i c = search rules
 
-loop-less : tie.Need-loop-smaller invariant-loop decreases-loop
+loop-less : tie.Need-loop-i-smaller invariant-loop decreases-loop
 loop-less c = search rules
 
-loop-again : tie.Need-loop-preserved invariant-loop decreases-loop
+loop-again : tie.Need-loop-i-preserved invariant-loop decreases-loop
 loop-again c =
     let l = c.before.before.before.before.before in
     let a = l.before.args in (
       search rules,
-      below_more (λ (k : ℕ). ok a.most a.xs.now k ≡ true) l.loop.i l.loop.invariant.1
-          (and-true (le-leb 1 (get_or a.xs.now l.loop.i 0) c.before.before.if1.false) (le-leb (get_or a.xs.now l.loop.i 0) a.most c.if2.false)),
+      below_more (λ (k : ℕ). ok a.most a.xs.now k ≡ true) l.loop-i.i l.loop-i.invariant.1
+          (and-true (le-leb 1 (get_or a.xs.now l.loop-i.i 0) c.before.before.if-xs-i-lt1.false) (le-leb (get_or a.xs.now l.loop-i.i 0) a.most c.if-most-xs.false)),
     )
 
-returns-3 : tie.Need-returns-3 invariant-loop decreases-loop
+returns-3 : tie.Need-returns invariant-loop decreases-loop
 unfolding is_within
 returns-3 c =
     let l = c.before in
     let a = l.before.args in
-    sym (every-all (ok a.most a.xs.now) (length a.xs.now) (λ k h. l.loop.invariant.1 k (omega (arith, c.loop-test.false))))
+    sym (every-all (ok a.most a.xs.now) (length a.xs.now) (λ k h. l.loop-i.invariant.1 k (omega (arith, c.loop-i-test.false))))
 
-pub within-spec : {M : Type 1} → statement M
-within-spec =
+pub within_spec : {M : Type 1} → statement M
+within_spec =
     tie.close
     (tie.spec
     invariant-loop

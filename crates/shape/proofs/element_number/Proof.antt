@@ -11,56 +11,56 @@ use Rattle.shape.proofs.Limits.{Limits, limits, point-in}
 use Rattle.shape.proofs.element_number.Statement.{statement}
 use Rattle.shape.proofs.element_number.Tie as tie
 
-good-shape-requires : tie.Need-good-shape-requires
+good-shape-requires : tie.Need-good_shape-requires
 good-shape-requires c κs = search rules
 
-returns : tie.Need-returns
+returns : tie.Need-returns-then-not-good_shape
 unfolding element_number
-returns c = rw (sym c.before.good-shape.ensures ∙ not-true c.before.good-shape.result c.if1.true)
+returns c = rw (sym c.before.good_shape.ensures ∙ not-true c.before.good_shape.result c.if-not-good_shape.true)
 
 -- the shape keeps its limits
-kept : (c : tie.Else1) → good_shape c.before.before.before.args.shape ≡ true
-kept c = sym c.before.good-shape.ensures ∙ not-false c.before.good-shape.result c.if1.false
+kept : (c : tie.Else-not-good_shape) → good_shape c.before.before.before.args.shape ≡ true
+kept c = sym c.before.good_shape.ensures ∙ not-false c.before.good_shape.result c.if-not-good_shape.false
 
-judge-point-requires : tie.Need-judge-point-requires
+judge-point-requires : tie.Need-judge_point-requires
 judge-point-requires c κs = kept c
 
-enum_told : tie.Need-enum-told
+enum_told : tie.Need-enum_told-1
 enum_told c = search rules
 
 -- the point is judged done
-judged : (c : tie.After-enum-told) → judge (inside_rules c.before.before.before.before.before.before.args.shape c.before.before.before.before.before.before.args.point.now) ≡ Done
-judged c = sym c.before.before.judge-point.ensures ∙ c.enum_told.given.1
+judged : (c : tie.In-Done) → judge (inside_rules c.before.before.before.before.before.before.args.shape c.before.before.before.before.before.before.args.point.now) ≡ Done
+judged c = sym c.before.before.judge_point.ensures ∙ c.enum_told-1.given.1
 
-good : (c : tie.After-enum-told) → Limits c.before.before.before.before.before.before.args.shape
+good : (c : tie.In-Done) → Limits c.before.before.before.before.before.before.args.shape
 good c = limits c.before.before.before.before.before.before.args.shape (search rules) (kept c.before.before.before)
 
-array-share-prefix-sizes : tie.Need-array-share-prefix-sizes
+array-share-prefix-sizes : tie.Need-slice_bounds-sizes-end
 array-share-prefix-sizes c = (good c.before).room
 
-slice-aggregate-row-major : tie.Need-slice-aggregate-row-major
+slice-aggregate-row-major : tie.Need-slice_bounds-row_major-end
 slice-aggregate-row-major c = sym (good c.before.before).long
 
-row-major-requires : tie.Need-row-major-requires
+row-major-requires : tie.Need-row_major-n-requires
 row-major-requires c κs = let t = c.before.before in (point-in _ _ (judged t), (good t).count)
 
-enum-known-r : tie.Need-enum-known-r
+enum-known-r : tie.Need-enum_known-r
 enum-known-r c = search rules
 
-returns-2 : tie.Need-returns-2
+returns-2 : tie.Need-returns-in-Done
 unfolding element_number
 returns-2 c =
     let t = c.before.before.before in
-    rw (kept t.before.before.before, judged t, c.row-major.ensures)
+    rw (kept t.before.before.before, judged t, c.row_major-n.ensures)
 
-returns-3 : tie.Need-returns-3
+returns-3 : tie.Need-returns-in-Refused
 unfolding element_number
 returns-3 c =
     let j = c.before.before.before in
-    rw (kept j.before, sym j.judge-point.ensures, c.before.r.given.1)
+    rw (kept j.before, sym j.judge_point.ensures, c.before.r-1.given.1)
 
-pub element-number-spec : {M : Type 1} → statement M
-element-number-spec =
+pub element_number_spec : {M : Type 1} → statement M
+element_number_spec =
     tie.close
     (tie.spec
     good-shape-requires

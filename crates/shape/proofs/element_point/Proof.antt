@@ -17,74 +17,74 @@ use Rattle.shape.proofs.Limits.{Limits, limits}
 use Rattle.shape.proofs.element_point.Statement.{statement}
 use Rattle.shape.proofs.element_point.Tie as tie
 
-good-shape-requires : tie.Need-good-shape-requires
+good-shape-requires : tie.Need-good_shape-requires
 good-shape-requires c κs = search rules
 
 unlocated-requires : tie.Need-unlocated-requires
 unlocated-requires c κs = search rules
 
-returns : tie.Need-returns
+returns : tie.Need-returns-then-not-good_shape
 unfolding element_point
-returns c = ap located_answer c.unlocated.ensures ∙ rw (sym c.before.before.good-shape.ensures ∙ not-true c.before.before.good-shape.result c.before.if1.true)
+returns c = ap located_answer c.unlocated.ensures ∙ rw (sym c.before.before.good_shape.ensures ∙ not-true c.before.before.good_shape.result c.before.if-not-good_shape.true)
 
 -- the shape keeps its limits
-kept : (c : tie.Else1) → good_shape c.before.before.args.shape ≡ true
-kept c = sym c.before.good-shape.ensures ∙ not-false c.before.good-shape.result c.if1.false
+kept : (c : tie.Else-not-good_shape) → good_shape c.before.before.args.shape ≡ true
+kept c = sym c.before.good_shape.ensures ∙ not-false c.before.good_shape.result c.if-not-good_shape.false
 
-count-of-requires : tie.Need-count-of-requires
+count-of-requires : tie.Need-count_of-requires
 count-of-requires c κs = kept c
 
 -- where the element lies inside: the shape, the element, and the shape's limits
-abbrev Of : tie.Then2 → Shape
+abbrev Of : tie.Then-n-count_of → Shape
 Of c = c.before.before.before.before.args.shape
 
-abbrev N : tie.Then2 → ℕ
+abbrev N : tie.Then-n-count_of → ℕ
 N c = c.before.before.before.before.args.element.0
 
-below : (c : tie.Then2) → N c < count_of (Of c)
-below c = subst (λ (k : ℕ). N c < k) c.before.count_of.ensures c.if2.true
+below : (c : tie.Then-n-count_of) → N c < count_of (Of c)
+below c = subst (λ (k : ℕ). N c < k) c.before.count_of.ensures c.if-n-count_of.true
 
-good : (c : tie.Then2) → Limits (Of c)
+good : (c : tie.Then-n-count_of) → Limits (Of c)
 good c = limits (Of c) (search rules) (kept c.before.before)
 
-array-share-prefix-sizes : tie.Need-array-share-prefix-sizes
+array-share-prefix-sizes : tie.Need-slice_bounds-sizes-end
 array-share-prefix-sizes c = (good c.before).room
 
-slice-aggregate-digits-into : tie.Need-slice-aggregate-digits-into
+slice-aggregate-digits-into : tie.Need-slice_bounds-digits_into-end
 slice-aggregate-digits-into c = sym (good c.before.before).long
 
-slice-aggregate-digits-into-2 : tie.Need-slice-aggregate-digits-into-2
+slice-aggregate-digits-into-2 : tie.Need-slice_bounds-digits_into-end-then-n-count_of
 slice-aggregate-digits-into-2 c = search rules
 
-digits-into-requires : tie.Need-digits-into-requires
+digits-into-requires : tie.Need-digits_into-requires
 digits-into-requires c κs =
     let t = c.before.before.before in
     let g = good t in
-    ((omega (arith, g.rank, g.long), g.count, below t), g.sizes)
+    ((omega (arith, g.rank, g.long), g.count, below t), g.sizes-1)
 
-unlocated-requires-2 : tie.Need-unlocated-requires-2
+unlocated-requires-2 : tie.Need-unlocated-requires-else-n-count_of
 unlocated-requires-2 c κs = search rules
 
-returns-2 : tie.Need-returns-2
+returns-2 : tie.Need-returns-then-n-count_of
 unfolding element_point
 returns-2 c =
     let d = c.before in
     let t = d.before.before.before.before in
     rw (kept t.before.before, lt-ltb _ _ (below t))
     (ap (λ (xs : List ℕ). done ((Of t).rank ∷ xs))
-    (d.digits-into.ensures
+    (d.digits_into.ensures
     ∙ ap (λ (xs : List ℕ). digits (sizes_of (Of t)) (N t) ++ xs) (drop-replicate (length (sizes_of (Of t))) max_rank 0 ∙ ap (λ (k : ℕ). replicate (max_rank - k) 0) (good t).long)))
 
-returns-3 : tie.Need-returns-3
+returns-3 : tie.Need-returns-else-n-count_of
 unfolding element_point
 returns-3 c =
     let t = c.before in
     let n = t.before.before.before.before.args.element.0 in
-    ap located_answer c.unlocated2.ensures
-    ∙ rw (kept t.before.before, le-ltb _ _ (subst (λ (k : ℕ). k ≤ n) t.before.count_of.ensures t.if2.false))
+    ap located_answer c.unlocated-else-n-count_of.ensures
+    ∙ rw (kept t.before.before, le-ltb _ _ (subst (λ (k : ℕ). k ≤ n) t.before.count_of.ensures t.if-n-count_of.false))
 
-pub element-point-spec : {M : Type 1} → statement M
-element-point-spec =
+pub element_point_spec : {M : Type 1} → statement M
+element_point_spec =
     tie.close
     (tie.spec
     good-shape-requires

@@ -13,46 +13,46 @@ use Rattle.radix.proofs.Tests.{every-all, every-not}
 use Rattle.shape.proofs.dimensions.in_range.Statement.{statement}
 use Rattle.shape.proofs.dimensions.in_range.Tie as tie
 
-abbrev invariant-loop : tie.invariant-loop
+abbrev invariant-loop : tie.invariant-loop-i
 invariant-loop list n i₀ i = (i ≤ length list) × ((k : ℕ) → k < i → ltb (get_or list k 0) n ≡ true)
 
-abbrev decreases-loop : tie.decreases-loop
+abbrev decreases-loop : tie.decreases-loop-i
 decreases-loop list n i₀ i = length list - i
 
-loop-holds : tie.Need-loop-init invariant-loop decreases-loop
+loop-holds : tie.Need-loop-i-init invariant-loop decreases-loop
 loop-holds c = (search rules, below_none _)
 
-mul-if1 : tie.Need-overflow-mul-if1 invariant-loop decreases-loop
+mul-if1 : tie.Need-offset_bounds-list-i invariant-loop decreases-loop
 mul-if1 c = search rules
 
-shared-slice-read-if1 : tie.Need-shared-slice-read-if1 invariant-loop decreases-loop
+shared-slice-read-if1 : tie.Need-bounds-list-i invariant-loop decreases-loop
 shared-slice-read-if1 c = search rules
 
-returns : tie.Need-returns invariant-loop decreases-loop
+returns : tie.Need-returns-then-n-list invariant-loop decreases-loop
 unfolding in_range
 returns c =
     let l = c.before.before.before in
     let list = l.before.args.list.now in
-    sym (every-not (λ (k : ℕ). ltb (get_or list k 0) l.before.args.n) (length list) l.loop.i c.before.before.loop-test.true (le-ltb _ _ c.if1.true))
+    sym (every-not (λ (k : ℕ). ltb (get_or list k 0) l.before.args.n) (length list) l.loop-i.i c.before.before.loop-i-test.true (le-ltb _ _ c.if-n-list.true))
 
-add-i : tie.Need-overflow-add-i invariant-loop decreases-loop
+add-i : tie.Need-overflow_add-i invariant-loop decreases-loop
 add-i c = search rules
 
-loop-less : tie.Need-loop-smaller invariant-loop decreases-loop
+loop-less : tie.Need-loop-i-smaller invariant-loop decreases-loop
 loop-less c = search rules
 
-loop-again : tie.Need-loop-preserved invariant-loop decreases-loop
-loop-again c = (search rules, below_more _ _ c.before.before.before.loop.invariant.1 (lt-ltb _ _ c.if1.false))
+loop-again : tie.Need-loop-i-preserved invariant-loop decreases-loop
+loop-again c = (search rules, below_more _ _ c.before.before.before.loop-i.invariant.1 (lt-ltb _ _ c.if-n-list.false))
 
-returns-2 : tie.Need-returns-2 invariant-loop decreases-loop
+returns-2 : tie.Need-returns invariant-loop decreases-loop
 unfolding in_range
 returns-2 c =
     let l = c.before in
     let list = l.before.args.list.now in
-    sym (every-all (λ (k : ℕ). ltb (get_or list k 0) l.before.args.n) (length list) (λ k h. l.loop.invariant.1 k (omega (arith, c.loop-test.false))))
+    sym (every-all (λ (k : ℕ). ltb (get_or list k 0) l.before.args.n) (length list) (λ k h. l.loop-i.invariant.1 k (omega (arith, c.loop-i-test.false))))
 
-pub in-range-spec : {M : Type 1} → statement M
-in-range-spec =
+pub in_range_spec : {M : Type 1} → statement M
+in_range_spec =
     tie.close
     (tie.spec
     invariant-loop

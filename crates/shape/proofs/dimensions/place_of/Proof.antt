@@ -9,43 +9,43 @@ use Rattle.shape.proofs.Repeats.{place_is, place_none}
 use Rattle.shape.proofs.dimensions.place_of.Statement.{statement}
 use Rattle.shape.proofs.dimensions.place_of.Tie as tie
 
-abbrev invariant-loop : tie.invariant-loop
+abbrev invariant-loop : tie.invariant-loop-i
 invariant-loop list dimension i₀ i = (i ≤ length list) × ((k : ℕ) → k < i → get_or list k 0 ≡ dimension → ⊥)
 
-abbrev decreases-loop : tie.decreases-loop
+abbrev decreases-loop : tie.decreases-loop-i
 decreases-loop list dimension i₀ i = length list - i
 
-loop-holds : tie.Need-loop-init invariant-loop decreases-loop
+loop-holds : tie.Need-loop-i-init invariant-loop decreases-loop
 loop-holds c = (search rules, below_none _)
 
-mul-if1 : tie.Need-overflow-mul-if1 invariant-loop decreases-loop
+mul-if1 : tie.Need-offset_bounds-list-i invariant-loop decreases-loop
 mul-if1 c = search rules
 
-shared-slice-read-if1 : tie.Need-shared-slice-read-if1 invariant-loop decreases-loop
+shared-slice-read-if1 : tie.Need-bounds-list-i invariant-loop decreases-loop
 shared-slice-read-if1 c = search rules
 
-returns : tie.Need-returns invariant-loop decreases-loop
+returns : tie.Need-returns-then-list-i invariant-loop decreases-loop
 returns c =
     let l = c.before.before.before in
-    sym (place_is l.before.args.dimension l.before.args.list.now l.loop.i c.before.before.loop-test.true c.if1.true l.loop.invariant.1)
+    sym (place_is l.before.args.dimension l.before.args.list.now l.loop-i.i c.before.before.loop-i-test.true c.if-list-i.true l.loop-i.invariant.1)
 
-add-i : tie.Need-overflow-add-i invariant-loop decreases-loop
+add-i : tie.Need-overflow_add-i invariant-loop decreases-loop
 add-i c = search rules
 
-loop-less : tie.Need-loop-smaller invariant-loop decreases-loop
+loop-less : tie.Need-loop-i-smaller invariant-loop decreases-loop
 loop-less c = search rules
 
-loop-again : tie.Need-loop-preserved invariant-loop decreases-loop
-loop-again c = (search rules, below_more _ _ c.before.before.before.loop.invariant.1 c.if1.false)
+loop-again : tie.Need-loop-i-preserved invariant-loop decreases-loop
+loop-again c = (search rules, below_more _ _ c.before.before.before.loop-i.invariant.1 c.if-list-i.false)
 
-returns-2 : tie.Need-returns-2 invariant-loop decreases-loop
+returns-2 : tie.Need-returns invariant-loop decreases-loop
 returns-2 c =
     let l = c.before in
-    let e : l.loop.i ≡ length l.before.args.list.now = omega arith in
-    e ∙ sym (place_none l.before.args.dimension l.before.args.list.now (λ k h. l.loop.invariant.1 k (omega (arith, c.loop-test.false))))
+    let e : l.loop-i.i ≡ length l.before.args.list.now = omega arith in
+    e ∙ sym (place_none l.before.args.dimension l.before.args.list.now (λ k h. l.loop-i.invariant.1 k (omega (arith, c.loop-i-test.false))))
 
-pub place-of-spec : {M : Type 1} → statement M
-place-of-spec =
+pub place_of_spec : {M : Type 1} → statement M
+place_of_spec =
     tie.close
     (tie.spec
     invariant-loop

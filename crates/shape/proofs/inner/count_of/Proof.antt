@@ -5,20 +5,20 @@ use Rattle.shape.proofs.Limits.{Limits, limits, whole}
 use Rattle.shape.proofs.inner.count_of.Statement.{statement}
 use Rattle.shape.proofs.inner.count_of.Tie as tie
 
-good : (c : tie.After-sizes) → Limits c.before.args.shape
+good : (c : tie.After-sizes-1) → Limits c.before.args.shape
 good c = limits c.before.args.shape (search rules) c.before.requires
 
-array-share-prefix-sizes : tie.Need-array-share-prefix-sizes
+array-share-prefix-sizes : tie.Need-slice_bounds-sizes-end
 array-share-prefix-sizes c = (good c).room
 
-slice-aggregate-product : tie.Need-slice-aggregate-product
+slice-aggregate-product : tie.Need-slice_bounds-product-end
 slice-aggregate-product c = sym (good c.before).long
 
 product-requires : tie.Need-product-requires
-product-requires c κs = (good c.before).sizes
+product-requires c κs = (good c.before).sizes-1
 
 returns : tie.Need-returns
 returns c = whole _ (good c.before.before) c.product.ensures
 
-pub count-of-spec : {M : Type 1} → statement M
-count-of-spec = tie.close (tie.spec array-share-prefix-sizes slice-aggregate-product product-requires returns)
+pub count_of_spec : {M : Type 1} → statement M
+count_of_spec = tie.close (tie.spec array-share-prefix-sizes slice-aggregate-product product-requires returns)
