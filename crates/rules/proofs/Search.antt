@@ -247,9 +247,12 @@ module _ (β : Kind → ℕ → Range) (t : Sum) where
 
       go : Dec (g < b) → fitting_of β t (below b l) ≡ fitting_of β t (from_divisor m l) → fitting_of β t (below b (g ∷ l)) ≡ fitting_of β t (from_divisor (larger_below b g m) (g ∷ l))
       go (yes j) ih =
-          rw (lt-ltb g b j, top j, lt-ltb 1 g i.0, le-ltb g g (omega arith))
-          (ap (λ (x : List ℕ). fitting_of β t (g ∷ x)) (below_all b g l j k.0) ∙ first-once g l k.0)
-      go (no j) ih = rw (le-ltb g b (omega arith), larger-high b g m (omega arith)) (ih ∙ rest (ltb 1 m) refl (omega arith))
+          subst (λ (w : ℕ). fitting_of β t (below b (g ∷ l)) ≡ fitting_of β t (from_divisor w (g ∷ l))) (sym (top j))
+          (rw (lt-ltb g b j, lt-ltb 1 g i.0, le-ltb g g (omega arith))
+          (ap (λ (x : List ℕ). fitting_of β t (g ∷ x)) (below_all b g l j k.0) ∙ first-once g l k.0))
+      go (no j) ih =
+          subst (λ (w : ℕ). fitting_of β t (below b (g ∷ l)) ≡ fitting_of β t (from_divisor w (g ∷ l))) (sym (larger-high b g m (omega arith)))
+          (rw (le-ltb g b (omega arith)) (ih ∙ rest (ltb 1 m) refl (omega arith)))
 
   -- ---- the turns of the search
 

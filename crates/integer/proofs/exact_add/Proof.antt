@@ -21,7 +21,7 @@ sub-if2 c =
 add-within : tie.Need-overflow_add-a
 add-within c =
     let s = c.before.before in
-    let t = rw (to_z-of_z s.ranges.a) at c.before.if-a-gt0.true in
+    let t = rw (to_z-of_z s.ranges.a) at c.if-a-gt0.true in
     let u = rw (to_z-of_z (sub-if2 c.before), to_z-of_z s.ranges.a, to_z-of_z s.ranges.b) at c.if-a-b.false in
     let left = diff-parts (pos limit) s.args.a in
     let sum = add_parts s.args.a s.args.b in
@@ -58,7 +58,7 @@ sub-if3-2 c =
 add-within-2 : tie.Need-overflow_add-a-else-b-a
 add-within-2 c =
     let s = c.before.before in
-    let t = rw (to_z-of_z s.ranges.a) at c.before.if-a-gt0.false in
+    let t = rw (to_z-of_z s.ranges.a) at c.if-a-gt0.false in
     let u = rw (to_z-of_z (sub-if3-2 c.before), to_z-of_z s.ranges.a, to_z-of_z s.ranges.b) at c.if-b-a.false in
     let left = diff-parts (neg_ℤ (pos limit)) s.args.a in
     let sum = add_parts s.args.a s.args.b in

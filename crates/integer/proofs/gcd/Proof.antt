@@ -24,7 +24,7 @@ loop-holds : tie.Need-loop-round-init invariant-loop decreases-loop
 loop-holds c = (refl, omega arith)
 
 least-remainder-requires : tie.Need-least_remainder-rest-requires invariant-loop decreases-loop
-least-remainder-requires c κs = above _ c.if-y-ne0.true
+least-remainder-requires c κs = above _ c.if-y-ne0.true-raw
 
 add-round : tie.Need-overflow_add-round invariant-loop decreases-loop
 add-round c = omega arith
@@ -34,8 +34,8 @@ loop-less c = omega arith
 
 loop-again : tie.Need-loop-round-preserved invariant-loop decreases-loop
 loop-again c =
-    let h = above _ c.before.if-y-ne0.true in
-    let p = c.before.before.before.loop-round in
+    let h = above _ c.if-y-ne0.true-raw in
+    let p = c.loop-round in
     let e = c.least_remainder-rest.ensures in
     let i = p.invariant.0 in
     let k = gcd-kept p.x p.y h in
@@ -43,13 +43,13 @@ loop-again c =
 
 returns : tie.Need-returns-else-y-ne0 invariant-loop decreases-loop
 returns c =
-    let p = c.before.before.loop-round in
-    gcd-ended p.x p.y _ (eqb-true p.y 0 (not-false _ c.if-y-ne0.false)) p.invariant.0
+    let p = c.loop-round in
+    gcd-ended p.x p.y _ (eqb-true p.y 0 (not-false _ c.if-y-ne0.false-raw)) p.invariant.0
 
 returns-2 : tie.Need-returns-after-loop-round invariant-loop decreases-loop
 returns-2 c =
     let s = c.before.before in
-    let p = c.before.loop-round in
+    let p = c.loop-round in
     let l = rounds-digits 64 s.args.a s.args.b (omega (arith, s.ranges.b.fits)) in
     gcd-ended p.x p.y _ (rounds-none p.x p.y (omega (arith, p.invariant.1))) p.invariant.0
 

@@ -35,10 +35,10 @@ module _ {a : ℤ} (A : SFits w64 a) (t : lt_z (held a) (pos 0) ≡ true) where
   one_more = omega (lin, below, abs-parts a)
 
 add-result : tie.Need-overflow_add-result
-add-result c = next_fits c.before.ranges.a c.if-a-lt0.true
+add-result c = next_fits c.ranges.a c.if-a-lt0.true
 
 sub-result : tie.Need-overflow_sub-result
-sub-result c = opposite-fits c.before.ranges.a c.if-a-lt0.true
+sub-result c = opposite-fits c.ranges.a c.if-a-lt0.true
 
 cast-result : tie.Need-overflow_cast-result
 cast-result c =

@@ -23,15 +23,15 @@ cast-z c = record { sfits = omega arith }
 
 sub-result : tie.Need-overflow_sub-result
 sub-result c =
-    let m = c.before.args.m in
-    subst⁻¹ (SFits w64) (opposite m c.before.requires)
+    let m = c.args.m in
+    subst⁻¹ (SFits w64) (opposite m c.requires)
     (fits_by (neg_ℤ (pos m)) (omega (arith, up_neg (pos m), dn-neg (pos m))))
 
 returns : tie.Need-returns-then-negative
-returns c = rw c.if-negative.true (to_z-of_z (sub-result c) ∙ opposite c.before.args.m c.before.requires)
+returns c = rw c.if-negative.true (to_z-of_z (sub-result c) ∙ opposite c.args.m c.requires)
 
 returns-2 : tie.Need-returns-else-negative
-returns-2 c = rw c.if-negative.false (read c.before.args.m c.before.requires)
+returns-2 c = rw c.if-negative.false (read c.args.m c.requires)
 
 pub with_sign_spec : {M : Type 1} → statement M
 with_sign_spec = tie.close (tie.spec cast-z sub-result returns returns-2)

@@ -26,7 +26,7 @@ returns-2 c =
 returns-3 : tie.Need-returns-else-s-gt-LIMIT
 returns-3 c =
     let s = c.before.before in
-    let t = rw (to_z-of_z s.ranges.s) at c.before.if-s.false in
+    let t = rw (to_z-of_z s.ranges.s) at c.if-s.false in
     let u = rw (to_z-of_z s.ranges.s) at c.if-s-gt-LIMIT.false in
     rw (to_z-of_z s.ranges.s) (sym (exact-in s.args.s (abs-le s.args.s limit (omega lin))))
 

@@ -11,46 +11,46 @@ use Rattle.layout.specs.Answers.{element_held}
 use Rattle.layout.proofs.element_at.Statement.{statement}
 use Rattle.layout.proofs.element_at.Tie as tie
 
-judge-layout-requires : tie.Need-judge-layout-requires
+judge-layout-requires : tie.Need-judge_layout-requires
 judge-layout-requires c κs = search rules
 
-enum_told : tie.Need-enum-told
+enum_told : tie.Need-enum_told-1
 enum_told c = search rules
 
 -- the shape and the layout are judged done
-judged : (c : tie.After-enum-told) → judge (layout_rules c.before.before.before.args.shape c.before.before.before.args.layout) ≡ Done
-judged c = sym c.before.before.judge-layout.ensures ∙ c.enum_told.given.1
+judged : (c : tie.In-Done) → judge (layout_rules c.args.shape c.args.layout) ≡ Done
+judged c = sym c.judge_layout.ensures ∙ c.in-Done.is
 
-padded-cells-requires : tie.Need-padded-cells-requires
+padded-cells-requires : tie.Need-padded_cells-requires
 padded-cells-requires c κs = judged c
 
-below : (c : tie.Then1) → c.before.before.before.before.before.args.offset.0 < padded_of c.before.before.before.before.before.args.shape c.before.before.before.before.before.args.layout
-below c = subst (λ (n : ℕ). c.before.before.before.before.before.args.offset.0 < n) c.before.padded-cells.ensures c.if1.true
+below : (c : tie.Then-k-padded_cells) → c.args.offset.0 < padded_of c.args.shape c.args.layout
+below c = subst (λ (n : ℕ). c.args.offset.0 < n) c.padded_cells.ensures c.if-k-padded_cells.true
 
-held-at-requires : tie.Need-held-at-requires
+held-at-requires : tie.Need-held_at-requires
 held-at-requires c κs = (judged c.before.before, below c)
 
-enum-known-r : tie.Need-enum-known-r
+enum-known-r : tie.Need-enum_known-r
 enum-known-r c = search rules
 
-returns : tie.Need-returns
+returns : tie.Need-returns-then-k-padded_cells
 unfolding element_held
 returns c =
     let t = c.before in
     rw (after-done _ _ (judged t.before.before), lt-ltb _ _ (below t)) c.held_at.ensures
 
-returns-2 : tie.Need-returns-2
+returns-2 : tie.Need-returns-else-k-padded_cells
 unfolding element_held
 returns-2 c =
-    let k = c.before.before.before.before.before.args.offset.0 in
-    rw (after-done _ _ (judged c.before.before), le-ltb _ _ (subst (λ (n : ℕ). n ≤ k) c.before.padded-cells.ensures c.if1.false))
+    let k = c.args.offset.0 in
+    rw (after-done _ _ (judged c.before.before), le-ltb _ _ (subst (λ (n : ℕ). n ≤ k) c.padded_cells.ensures c.if-k-padded_cells.false))
 
-returns-3 : tie.Need-returns-3
+returns-3 : tie.Need-returns-in-Refused
 unfolding element_held
-returns-3 c = rw (after-refused _ _ _ (sym c.before.before.before.judge-layout.ensures ∙ c.before.r.given.1))
+returns-3 c = rw (after-refused _ _ _ (sym c.judge_layout.ensures ∙ c.in-Refused.is))
 
-pub element-at-spec : {M : Type 1} → statement M
-element-at-spec =
+pub element_at_spec : {M : Type 1} → statement M
+element_at_spec =
     tie.close
     (tie.spec
     judge-layout-requires

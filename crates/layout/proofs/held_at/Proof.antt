@@ -8,24 +8,24 @@ use Rattle.layout.specs.Answers.{cell_values}
 use Rattle.layout.proofs.held_at.Statement.{statement}
 use Rattle.layout.proofs.held_at.Tie as tie
 
-cell-found-requires : tie.Need-cell-found-requires
+cell-found-requires : tie.Need-cell_found-requires
 cell-found-requires c κs = c.requires
 
-enum-known-n : tie.Need-enum-known-n
+enum-known-n : tie.Need-enum_known-n
 enum-known-n c = search rules
 
-enum_told : tie.Need-enum-told
+enum_told : tie.Need-enum_told-1
 enum_told c = search rules
 
-returns : tie.Need-returns
+returns : tie.Need-returns-in-Number
 returns c =
-    let f = c.before.before.before in
-    ap (λ (x : Cell). done (cell_values x)) (ap found_cell (sym c.before.n.given.1) ∙ f.cell-found.ensures)
+    let f = c.before in
+    ap (λ (x : Cell). done (cell_values x)) (ap found_cell (sym c.in-Number.is) ∙ f.cell_found.ensures)
 
-returns-2 : tie.Need-returns-2
+returns-2 : tie.Need-returns-in-Padding
 returns-2 c =
-    let f = c.before.before in
-    ap (λ (x : Cell). done (cell_values x)) (ap found_cell (sym c.enum_told.given.1) ∙ f.cell-found.ensures)
+    let f = c.before in
+    ap (λ (x : Cell). done (cell_values x)) (ap found_cell (sym c.in-Padding.is) ∙ f.cell_found.ensures)
 
-pub held-at-spec : {M : Type 1} → statement M
-held-at-spec = tie.close (tie.spec cell-found-requires enum-known-n enum_told returns returns-2)
+pub held_at_spec : {M : Type 1} → statement M
+held_at_spec = tie.close (tie.spec cell-found-requires enum-known-n enum_told returns returns-2)

@@ -13,46 +13,46 @@ use Rattle.layout.proofs.Rules.{done-shape}
 use Rattle.layout.proofs.offset_of_element.Statement.{statement}
 use Rattle.layout.proofs.offset_of_element.Tie as tie
 
-judge-layout-requires : tie.Need-judge-layout-requires
+judge-layout-requires : tie.Need-judge_layout-requires
 judge-layout-requires c κs = search rules
 
-enum_told : tie.Need-enum-told
+enum_told : tie.Need-enum_told-1
 enum_told c = search rules
 
 -- the shape and the layout are judged done
-judged : (c : tie.After-enum-told) → judge (layout_rules c.before.before.before.args.shape c.before.before.before.args.layout) ≡ Done
-judged c = sym c.before.before.judge-layout.ensures ∙ c.enum_told.given.1
+judged : (c : tie.In-Done) → judge (layout_rules c.args.shape c.args.layout) ≡ Done
+judged c = sym c.judge_layout.ensures ∙ c.in-Done.is
 
-count-of-requires : tie.Need-count-of-requires
+count-of-requires : tie.Need-count_of-requires
 count-of-requires c κs = done-shape _ _ (judged c)
 
-below : (c : tie.Then1) → c.before.before.before.before.before.args.element.0 < count_of c.before.before.before.before.before.args.shape
-below c = subst (λ (n : ℕ). c.before.before.before.before.before.args.element.0 < n) c.before.count_of.ensures c.if1.true
+below : (c : tie.Then-n-count_of) → c.args.element.0 < count_of c.args.shape
+below c = subst (λ (n : ℕ). c.args.element.0 < n) c.count_of.ensures c.if-n-count_of.true
 
-offset-number-requires : tie.Need-offset-number-requires
+offset-number-requires : tie.Need-offset_number-requires
 offset-number-requires c κs = (judged c.before.before, below c)
 
-enum-known-r : tie.Need-enum-known-r
+enum-known-r : tie.Need-enum_known-r
 enum-known-r c = search rules
 
-returns : tie.Need-returns
+returns : tie.Need-returns-then-n-count_of
 unfolding element_offset
 returns c =
     let t = c.before in
-    rw (after-done _ _ (judged t.before.before), lt-ltb _ _ (below t), c.offset-number.ensures)
+    rw (after-done _ _ (judged t.before.before), lt-ltb _ _ (below t), c.offset_number.ensures)
 
-returns-2 : tie.Need-returns-2
+returns-2 : tie.Need-returns-else-n-count_of
 unfolding element_offset
 returns-2 c =
-    let n = c.before.before.before.before.before.args.element.0 in
-    rw (after-done _ _ (judged c.before.before), le-ltb _ _ (subst (λ (k : ℕ). k ≤ n) c.before.count_of.ensures c.if1.false))
+    let n = c.args.element.0 in
+    rw (after-done _ _ (judged c.before.before), le-ltb _ _ (subst (λ (k : ℕ). k ≤ n) c.count_of.ensures c.if-n-count_of.false))
 
-returns-3 : tie.Need-returns-3
+returns-3 : tie.Need-returns-in-Refused
 unfolding element_offset
-returns-3 c = rw (after-refused _ _ _ (sym c.before.before.before.judge-layout.ensures ∙ c.before.r.given.1))
+returns-3 c = rw (after-refused _ _ _ (sym c.judge_layout.ensures ∙ c.in-Refused.is))
 
-pub offset-of-element-spec : {M : Type 1} → statement M
-offset-of-element-spec =
+pub offset_of_element_spec : {M : Type 1} → statement M
+offset_of_element_spec =
     tie.close
     (tie.spec
     judge-layout-requires

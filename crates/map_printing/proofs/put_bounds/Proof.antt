@@ -7,38 +7,38 @@ use lib.ListN.{length}
 use Rattle.map_printing.proofs.put_bounds.Statement.{statement}
 use Rattle.map_printing.proofs.put_bounds.Tie as tie
 
-abbrev invariant-loop : tie.invariant-loop
+abbrev invariant-loop : tie.invariant-loop-i
 invariant-loop out₀ at m letter count is-start next₀ i₀ out next i = length out ≡ length out₀
 
-abbrev decreases-loop : tie.decreases-loop
+abbrev decreases-loop : tie.decreases-loop-i
 decreases-loop out₀ at m letter count is-start next₀ i₀ out next i = count - i
 
-loop-holds : tie.Need-loop-init invariant-loop decreases-loop
+loop-holds : tie.Need-loop-i-init invariant-loop decreases-loop
 loop-holds c = search rules
 
-start-line-requires : tie.Need-start-line-requires invariant-loop decreases-loop
+start-line-requires : tie.Need-start_line-next-requires invariant-loop decreases-loop
 start-line-requires c κs = search rules
 
-put-bound-requires : tie.Need-put-bound-requires invariant-loop decreases-loop
+put-bound-requires : tie.Need-put_bound-next-requires invariant-loop decreases-loop
 put-bound-requires c κs = search rules
 
-add-i : tie.Need-overflow-add-i invariant-loop decreases-loop
+add-i : tie.Need-overflow_add-i invariant-loop decreases-loop
 add-i c = search rules
 
-loop-less : tie.Need-loop-smaller invariant-loop decreases-loop
+loop-less : tie.Need-loop-i-smaller invariant-loop decreases-loop
 loop-less c = search rules
 
-loop-again : tie.Need-loop-preserved invariant-loop decreases-loop
+loop-again : tie.Need-loop-i-preserved invariant-loop decreases-loop
 loop-again c = search rules
 
-same_length : tie.Need-same-length invariant-loop decreases-loop
+same_length : tie.Need-shape_of-out invariant-loop decreases-loop
 same_length c = search rules
 
 returns : tie.Need-returns invariant-loop decreases-loop
 returns c = search rules
 
-pub put-bounds-spec : {M : Type 1} → statement M
-put-bounds-spec =
+pub put_bounds_spec : {M : Type 1} → statement M
+put_bounds_spec =
     tie.close
     (tie.spec
     invariant-loop

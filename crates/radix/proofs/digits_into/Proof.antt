@@ -32,9 +32,9 @@ mul-d c = search rules
 shared-slice-read-d : tie.Need-bounds-ds-i invariant-loop decreases-loop
 shared-slice-read-d c = search rules
 
-size-pos : (c : tie.In-loop-i invariant-loop decreases-loop) → 0 < get_or c.before.before.args.ds.now (c.before.loop-i.i - 1) 0
+size-pos : (c : tie.In-loop-i invariant-loop decreases-loop) → 0 < get_or c.args.ds.now (c.loop-i.i - 1) 0
 unfolding Bounded
-size-pos c = (c.before.before.requires.1 (c.before.loop-i.i - 1) (omega (arith, c.loop-i-test.true))).0
+size-pos c = (c.requires.1 (c.loop-i.i - 1) (omega (arith, c.loop-i-test.true))).0
 
 rem-out : tie.Need-nonzero_rem-out invariant-loop decreases-loop
 rem-out c = size-pos c.before
@@ -54,12 +54,12 @@ loop-less c = search rules
 loop-again : tie.Need-loop-i-preserved invariant-loop decreases-loop
 loop-again c =
     let s = c.before.before.before in
-    let l = c.before.before.loop-i in
+    let l = c.loop-i in
     let ds = s.args.ds.now in
     let n = s.args.n in
     let rest = drop (length ds) s.args.out.now in
     let j = l.i - 1 in
-    let e : l.i ≡ j + 1 = omega (arith, c.before.loop-i-test.true) in
+    let e : l.i ≡ j + 1 = omega (arith, c.loop-i-test.true) in
     let k : l.k ≡ n / prod (drop (j + 1) ds) = l.invariant.2 ∙ ap (λ (i : ℕ). n / prod (drop i ds)) e in
     let o = subst (Behind ds n l.out rest) e l.invariant.3 in (
       search rules,
@@ -74,7 +74,7 @@ same_length c = search rules
 returns : tie.Need-returns invariant-loop decreases-loop
 returns c =
     let s = c.before.before in
-    let l = c.before.loop-i in
+    let l = c.loop-i in
     let ds = s.args.ds.now in
     let n = s.args.n in
     let rest = drop (length ds) s.args.out.now in

@@ -34,9 +34,9 @@ shared-slice-read-if1-2 c = search rules
 returns : tie.Need-returns-then-ds-i invariant-loop decreases-loop
 returns c =
     let l = c.before.before.before.before in
-    let a = l.before.args in
+    let a = l.args in
     sym (ap (λ (b : Bool). b && is_inside (drop (l.loop-i.i + 1) a.es.now) (drop (l.loop-i.i + 1) a.ds.now)) (le-ltb (get_or a.es.now l.loop-i.i 0) (get_or a.ds.now l.loop-i.i 0) c.if-ds-i.true))
-    ∙ sym (inside-at a.es.now a.ds.now l.loop-i.i c.before.before.before.loop-i-test.true (omega (arith, c.before.before.before.loop-i-test.true, l.before.requires))) ∙ l.loop-i.invariant.1
+    ∙ sym (inside-at a.es.now a.ds.now l.loop-i.i c.loop-i-test.true (omega (arith, c.loop-i-test.true, l.requires))) ∙ l.loop-i.invariant.1
 
 add-i : tie.Need-overflow_add-i invariant-loop decreases-loop
 add-i c = search rules
@@ -47,17 +47,17 @@ loop-less c = search rules
 loop-again : tie.Need-loop-i-preserved invariant-loop decreases-loop
 loop-again c =
     let l = c.before.before.before.before in
-    let a = l.before.args in (
+    let a = l.args in (
       search rules,
       sym (ap (λ (b : Bool). b && is_inside (drop (l.loop-i.i + 1) a.es.now) (drop (l.loop-i.i + 1) a.ds.now)) (lt-ltb (get_or a.es.now l.loop-i.i 0) (get_or a.ds.now l.loop-i.i 0) c.if-ds-i.false))
-          ∙ sym (inside-at a.es.now a.ds.now l.loop-i.i c.before.before.before.loop-i-test.true (omega (arith, c.before.before.before.loop-i-test.true, l.before.requires))) ∙ l.loop-i.invariant.1,
+          ∙ sym (inside-at a.es.now a.ds.now l.loop-i.i c.loop-i-test.true (omega (arith, c.loop-i-test.true, l.requires))) ∙ l.loop-i.invariant.1,
     )
 
 returns-2 : tie.Need-returns invariant-loop decreases-loop
 returns-2 c =
     let l = c.before in
-    let a = l.before.args in
-    sym (inside-end a.es.now a.ds.now l.loop-i.i c.loop-i-test.false (omega (arith, c.loop-i-test.false, l.before.requires))) ∙ l.loop-i.invariant.1
+    let a = l.args in
+    sym (inside-end a.es.now a.ds.now l.loop-i.i c.loop-i-test.false (omega (arith, c.loop-i-test.false, l.requires))) ∙ l.loop-i.invariant.1
 
 pub inside_spec : {M : Type 1} → statement M
 inside_spec =

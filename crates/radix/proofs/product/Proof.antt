@@ -28,15 +28,15 @@ shared-slice-read-acc c = search rules
 mul-acc-2 : tie.Need-overflow_mul-acc invariant-loop decreases-loop
 unfolding Bounded
 mul-acc-2 c =
-    Fits-le (mul-le-mul c.before.before.loop-i.invariant.1 (c.before.before.before.requires c.before.before.loop-i.i c.before.loop-i-test.true).1) (Fits-lit tt)
+    Fits-le (mul-le-mul c.loop-i.invariant.1 (c.requires c.loop-i.i c.loop-i-test.true).1) (Fits-lit tt)
 
 returns : tie.Need-returns-then-acc-gt-MAX_COUNT invariant-loop decreases-loop
 returns c =
     let l = c.before.before.before in
-    let ds = l.before.args.ds.now in
+    let ds = l.args.ds.now in
     let i = l.loop-i.i in
-    let e = prod-rest ds l.loop-i.acc i c.before.before.loop-i-test.true in
-    let g = le-mul_of_pos_right (l.loop-i.acc * get_or ds i 0) (rest-pos ds (i + 1) l.before.requires) in
+    let e = prod-rest ds l.loop-i.acc i c.loop-i-test.true in
+    let g = le-mul_of_pos_right (l.loop-i.acc * get_or ds i 0) (rest-pos ds (i + 1) l.requires) in
     sym (min-eq_right (omega (arith, e, g)))
 
 add-i : tie.Need-overflow_add-i invariant-loop decreases-loop
@@ -48,12 +48,12 @@ loop-less c = search rules
 loop-again : tie.Need-loop-i-preserved invariant-loop decreases-loop
 loop-again c =
     let l = c.before.before.before in
-    (search rules, search rules, sym (prod-rest l.before.args.ds.now l.loop-i.acc l.loop-i.i c.before.before.loop-i-test.true) ∙ l.loop-i.invariant.2)
+    (search rules, search rules, sym (prod-rest l.args.ds.now l.loop-i.acc l.loop-i.i c.loop-i-test.true) ∙ l.loop-i.invariant.2)
 
 returns-2 : tie.Need-returns invariant-loop decreases-loop
 returns-2 c =
     let l = c.before in
-    let e = sym (prod-end l.before.args.ds.now l.loop-i.acc l.loop-i.i c.loop-i-test.false) ∙ l.loop-i.invariant.2 in
+    let e = sym (prod-end l.args.ds.now l.loop-i.acc l.loop-i.i c.loop-i-test.false) ∙ l.loop-i.invariant.2 in
     e ∙ sym (min-eq_left (omega (arith, e)))
 
 pub product_spec : {M : Type 1} → statement M

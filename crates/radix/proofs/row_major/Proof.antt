@@ -20,10 +20,10 @@ loop-holds : tie.Need-loop-i-init invariant-loop decreases-loop
 loop-holds c = (search rules, simp (zero-mul, zero-add))
 
 -- a turn's number is at most the answer, which is below 2^40
-turn : (c : tie.In-loop-i invariant-loop decreases-loop) → c.before.loop-i.acc * get_or c.before.before.args.ds.now c.before.loop-i.i 0 + get_or c.before.before.args.es.now c.before.loop-i.i 0 < max_count
+turn : (c : tie.In-loop-i invariant-loop decreases-loop) → c.loop-i.acc * get_or c.args.ds.now c.loop-i.i 0 + get_or c.args.es.now c.loop-i.i 0 < max_count
 turn c =
     let s = c.before.before in
-    omega (arith, below s.requires.0, row-turn s.args.ds.now s.args.es.now c.before.loop-i.acc c.before.loop-i.i s.requires.0 c.loop-i-test.true c.before.loop-i.invariant.1)
+    omega (arith, below s.requires.0, row-turn s.args.ds.now s.args.es.now c.loop-i.acc c.loop-i.i s.requires.0 c.loop-i-test.true c.loop-i.invariant.1)
 
 mul-acc : tie.Need-offset_bounds-ds-i invariant-loop decreases-loop
 mul-acc c = search rules
@@ -37,8 +37,8 @@ mul-acc-2 c = omega (arith, turn c.before)
 mul-acc-3 : tie.Need-offset_bounds-es-i invariant-loop decreases-loop
 mul-acc-3 c = search rules
 
-inside : (c : tie.In-loop-i invariant-loop decreases-loop) → c.before.loop-i.i < length c.before.before.args.es.now
-inside c = omega (arith, in-length c.before.before.requires.0)
+inside : (c : tie.In-loop-i invariant-loop decreases-loop) → c.loop-i.i < length c.args.es.now
+inside c = omega (arith, in-length c.requires.0)
 
 shared-slice-read-acc-2 : tie.Need-bounds-es-i invariant-loop decreases-loop
 shared-slice-read-acc-2 c = inside c.before.before
@@ -55,12 +55,12 @@ loop-less c = search rules
 loop-again : tie.Need-loop-i-preserved invariant-loop decreases-loop
 loop-again c =
     let l = c.before.before.before in
-    (search rules, sym (row-rest l.before.args.ds.now l.before.args.es.now l.loop-i.acc l.loop-i.i c.before.before.loop-i-test.true (inside c.before.before)) ∙ l.loop-i.invariant.1)
+    (search rules, sym (row-rest l.args.ds.now l.args.es.now l.loop-i.acc l.loop-i.i c.loop-i-test.true (inside c.before.before)) ∙ l.loop-i.invariant.1)
 
 returns : tie.Need-returns invariant-loop decreases-loop
 returns c =
     let l = c.before in
-    sym (row-end l.before.args.ds.now l.before.args.es.now l.loop-i.acc l.loop-i.i c.loop-i-test.false) ∙ l.loop-i.invariant.1
+    sym (row-end l.args.ds.now l.args.es.now l.loop-i.acc l.loop-i.i c.loop-i-test.false) ∙ l.loop-i.invariant.1
 
 pub row_major_spec : {M : Type 1} → statement M
 row_major_spec =

@@ -36,8 +36,8 @@ returns : tie.Need-returns-then-xs-i-lt1 invariant-loop decreases-loop
 unfolding is_within
 returns c =
     let l = c.before.before.before in
-    let a = l.before.args in
-    sym (every-not (ok a.most a.xs.now) (length a.xs.now) l.loop-i.i c.before.before.loop-i-test.true (rw (lt-leb 1 (get_or a.xs.now l.loop-i.i 0) c.if-xs-i-lt1.true)))
+    let a = l.args in
+    sym (every-not (ok a.most a.xs.now) (length a.xs.now) l.loop-i.i c.loop-i-test.true (rw (lt-leb 1 (get_or a.xs.now l.loop-i.i 0) c.if-xs-i-lt1.true)))
 
 mul-if2 : tie.Need-offset_bounds-xs-i-in-loop-i invariant-loop decreases-loop
 mul-if2 c = search rules
@@ -49,8 +49,8 @@ returns-2 : tie.Need-returns-then-most-xs invariant-loop decreases-loop
 unfolding is_within
 returns-2 c =
     let l = c.before.before.before.before.before in
-    let a = l.before.args in
-    sym (every-not (ok a.most a.xs.now) (length a.xs.now) l.loop-i.i c.before.before.before.before.loop-i-test.true
+    let a = l.args in
+    sym (every-not (ok a.most a.xs.now) (length a.xs.now) l.loop-i.i c.loop-i-test.true
     (and-false (leb 1 (get_or a.xs.now l.loop-i.i 0)) (lt-leb (get_or a.xs.now l.loop-i.i 0) a.most c.if-most-xs.true)))
 
 add-i : tie.Need-overflow_add-i invariant-loop decreases-loop
@@ -62,17 +62,17 @@ loop-less c = search rules
 loop-again : tie.Need-loop-i-preserved invariant-loop decreases-loop
 loop-again c =
     let l = c.before.before.before.before.before in
-    let a = l.before.args in (
+    let a = l.args in (
       search rules,
       below_more (λ (k : ℕ). ok a.most a.xs.now k ≡ true) l.loop-i.i l.loop-i.invariant.1
-          (and-true (le-leb 1 (get_or a.xs.now l.loop-i.i 0) c.before.before.if-xs-i-lt1.false) (le-leb (get_or a.xs.now l.loop-i.i 0) a.most c.if-most-xs.false)),
+          (and-true (le-leb 1 (get_or a.xs.now l.loop-i.i 0) c.if-xs-i-lt1.false) (le-leb (get_or a.xs.now l.loop-i.i 0) a.most c.if-most-xs.false)),
     )
 
 returns-3 : tie.Need-returns invariant-loop decreases-loop
 unfolding is_within
 returns-3 c =
     let l = c.before in
-    let a = l.before.args in
+    let a = l.args in
     sym (every-all (ok a.most a.xs.now) (length a.xs.now) (λ k h. l.loop-i.invariant.1 k (omega (arith, c.loop-i-test.false))))
 
 pub within_spec : {M : Type 1} → statement M

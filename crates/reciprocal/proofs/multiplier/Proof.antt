@@ -14,55 +14,55 @@ use Rattle.reciprocal.proofs.Theorems.{table-entry}
 use Rattle.reciprocal.proofs.multiplier.Statement.{statement}
 use Rattle.reciprocal.proofs.multiplier.Tie as tie
 
-judge-divisor-requires : tie.Need-judge-divisor-requires
+judge-divisor-requires : tie.Need-judge_divisor-requires
 judge-divisor-requires c κs = search rules
 
-enum_told : tie.Need-enum-told
+enum_told : tie.Need-enum_told-1
 enum_told c = search rules
 
-multipliers-requires : tie.Need-multipliers-requires
+multipliers-requires : tie.Need-multipliers-table-requires
 multipliers-requires c κs = search rules
 
 -- the divisor is judged done
-judged : (c : tie.After-enum-told) → judge (divisor_rules c.before.before.before.args.d) ≡ Done
-judged c = sym c.before.before.judge-divisor.ensures ∙ c.enum_told.given.1
+judged : (c : tie.In-Done) → judge (divisor_rules c.args.d) ≡ Done
+judged c = sym c.judge_divisor.ensures ∙ c.in-Done.is
 
-within : (c : tie.After-enum-told) → (0 < c.before.before.before.args.d) × (c.before.before.before.args.d ≤ max_divisor)
+within : (c : tie.In-Done) → (0 < c.args.d) × (c.args.d ≤ max_divisor)
 within c = divisor-done _ (judged c)
 
-sub-t7 : tie.Need-overflow-sub-t7
+sub-t7 : tie.Need-overflow_sub-result
 sub-t7 c = (within c.before).0
 
-mul-t9 : tie.Need-overflow-mul-t9
+mul-t9 : tie.Need-offset_bounds-table-d
 mul-t9 c =
     let w = (within c.before).1 in
     record { fits = omega (arith, w) }
 
-element-copy-out-t12 : tie.Need-element-copy-out-t12
+element-copy-out-t12 : tie.Need-bounds-table-d
 element-copy-out-t12 c =
     let w = within c.before in
     omega (arith, w.0, w.1)
 
-enum-known-r : tie.Need-enum-known-r
+enum-known-r : tie.Need-enum_known-r
 enum-known-r c = search rules
 
 -- the entry read is the multiplier
-read : (c : tie.After-multipliers) → get_or c.multipliers.result.at (c.before.before.before.before.args.d - 1) 0 ≡ multiplier_of c.before.before.before.before.args.d
+read : (c : tie.After-multipliers-table) → get_or c.multipliers-table.result.at (c.args.d - 1) 0 ≡ multiplier_of c.args.d
 read c =
     let w = within c.before in
-    let d = c.before.before.before.before.args.d in
-    ap (λ (t : List ℕ). get_or t (d - 1) 0) c.multipliers.ensures ∙ table-entry d w.0 w.1
+    let d = c.args.d in
+    ap (λ (t : List ℕ). get_or t (d - 1) 0) c.multipliers-table.ensures ∙ table-entry d w.0 w.1
 
-returns : tie.Need-returns
+returns : tie.Need-returns-in-Done
 unfolding multiplier_entry
 returns c = rw (judged c.before.before, read c.before)
 
-returns-2 : tie.Need-returns-2
+returns-2 : tie.Need-returns-in-Refused
 unfolding multiplier_entry
-returns-2 c = rw (sym c.before.before.before.judge-divisor.ensures ∙ c.before.r.given.1)
+returns-2 c = rw (sym c.judge_divisor.ensures ∙ c.in-Refused.is)
 
-pub multiplier-spec : {M : Type 1} → statement M
-multiplier-spec =
+pub multiplier_spec : {M : Type 1} → statement M
+multiplier_spec =
     tie.close
     (tie.spec
     judge-divisor-requires

@@ -9,38 +9,38 @@ use Rattle.reciprocal.proofs.Judged.{divisor-done}
 use Rattle.reciprocal.proofs.quotient.Statement.{statement}
 use Rattle.reciprocal.proofs.quotient.Tie as tie
 
-judge-divisor-requires : tie.Need-judge-divisor-requires
+judge-divisor-requires : tie.Need-judge_divisor-requires
 judge-divisor-requires c κs = search rules
 
-enum_told : tie.Need-enum-told
+enum_told : tie.Need-enum_told-1
 enum_told c = search rules
 
-multipliers-requires : tie.Need-multipliers-requires
+multipliers-requires : tie.Need-multipliers-table-requires
 multipliers-requires c κs = search rules
 
-slice-aggregate-divide : tie.Need-slice-aggregate-divide
+slice-aggregate-divide : tie.Need-slice_bounds-divide-end
 slice-aggregate-divide c = search rules
 
 -- the divisor is judged done
-judged : (c : tie.After-enum-told) → judge (divisor_rules c.before.before.before.args.d) ≡ Done
-judged c = sym c.before.before.judge-divisor.ensures ∙ c.enum_told.given.1
+judged : (c : tie.In-Done) → judge (divisor_rules c.args.d) ≡ Done
+judged c = sym c.judge_divisor.ensures ∙ c.in-Done.is
 
-divide-requires : tie.Need-divide-requires
-divide-requires c κs = (multipliers-lent _ c.before.before.multipliers.ensures, divisor-done _ (judged c.before.before.before))
+divide-requires : tie.Need-divide-divided-requires
+divide-requires c κs = (multipliers-lent _ c.multipliers-table.ensures, divisor-done _ (judged c.before.before.before))
 
-enum-known-r : tie.Need-enum-known-r
+enum-known-r : tie.Need-enum_known-r
 enum-known-r c = search rules
 
-returns : tie.Need-returns
+returns : tie.Need-returns-in-Done
 unfolding floor_quotient
-returns c = rw (judged c.before.before.before.before, c.divide.ensures.0)
+returns c = rw (judged c.before.before.before.before, c.divide-divided.ensures.0)
 
-returns-2 : tie.Need-returns-2
+returns-2 : tie.Need-returns-in-Refused
 unfolding floor_quotient
-returns-2 c = rw (sym c.before.before.before.judge-divisor.ensures ∙ c.before.r.given.1)
+returns-2 c = rw (sym c.judge_divisor.ensures ∙ c.in-Refused.is)
 
-pub quotient-spec : {M : Type 1} → statement M
-quotient-spec =
+pub quotient_spec : {M : Type 1} → statement M
+quotient_spec =
     tie.close
     (tie.spec
     judge-divisor-requires

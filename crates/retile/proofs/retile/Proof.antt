@@ -17,59 +17,59 @@ use Rattle.retile.proofs.Rules.{Lent, lent, retile-judged}
 use Rattle.retile.proofs.retile.Statement.{statement}
 use Rattle.retile.proofs.retile.Tie as tie
 
-side-of-requires : tie.Need-side-of-requires
+side-of-requires : tie.Need-side_of-a-requires
 side-of-requires c κs = search rules
 
-side-of-requires-2 : tie.Need-side-of-requires-2
+side-of-requires-2 : tie.Need-side_of-b-requires
 side-of-requires-2 c κs = search rules
 
-judge-retile-requires : tie.Need-judge-retile-requires
+judge-retile-requires : tie.Need-judge_retile-requires
 judge-retile-requires c κs = search rules
 
-enum_told : tie.Need-enum-told
+enum_told : tie.Need-enum_told-1
 enum_told c = search rules
 
 -- where the function starts, from the verdict, and the two sides
-abbrev start : tie.After-judge-retile → tie.Start
+abbrev start : tie.After-judge_retile → tie.Start
 start j = j.before.before.before.before.before.before
 
 -- the verdict is that of the rules
-answer : (j : tie.After-judge-retile) → let a = (start j).args in j.judge-retile.result ≡ judge (retile_rules a.shape a.from a.to (length a.source.now) (length a.cells.now) a.mark.now)
+answer : (j : tie.After-judge_retile) → let a = (start j).args in j.judge_retile.result ≡ judge (retile_rules a.shape a.from a.to (length a.source.now) (length a.cells.now) a.mark.now)
 answer j =
     let a = (start j).args in
-    let x = j.before.before.before.side-of in
-    let y = j.before.before.side-of2 in
-    j.judge-retile.ensures
+    let x = j.side_of-a in
+    let y = j.side_of-b in
+    j.judge_retile.ensures
     ∙ retile-judged a.shape a.from a.to (length a.source.now) (length a.cells.now) a.mark.now x.result.verdict y.result.verdict x.result.extent.padded y.result.extent.padded
     x.ensures.0 (λ e. (x.ensures.1 e).padded) y.ensures.0 (λ e. (y.ensures.1 e).padded)
 
 -- the call is judged done, and what that gives
-abbrev judging : tie.After-enum-told → tie.After-judge-retile
-judging t = t.before.before
+abbrev judging : tie.In-Done → tie.After-judge_retile
+judging t = t.before
 
-judged : (t : tie.After-enum-told) → let a = (start (judging t)).args in judge (retile_rules a.shape a.from a.to (length a.source.now) (length a.cells.now) a.mark.now) ≡ Done
-judged t = sym (answer (judging t)) ∙ t.enum_told.given.1
+judged : (t : tie.In-Done) → let a = (start (judging t)).args in judge (retile_rules a.shape a.from a.to (length a.source.now) (length a.cells.now) a.mark.now) ≡ Done
+judged t = sym (answer (judging t)) ∙ t.in-Done.is
 
-given : (t : tie.After-enum-told) → let a = (start (judging t)).args in Lent a.shape a.from a.to (length a.source.now) (length a.cells.now) a.mark.now
+given : (t : tie.In-Done) → let a = (start (judging t)).args in Lent a.shape a.from a.to (length a.source.now) (length a.cells.now) a.mark.now
 given t = lent _ _ _ _ _ _ (judged t)
 
-size : (t : tie.After-enum-told) → let a = (start (judging t)).args in (judging t).before.before.side-of2.result.extent.padded ≡ padded_of a.shape a.to
+size : (t : tie.In-Done) → let a = (start (judging t)).args in (judging t).before.before.side-of2.result.extent.padded ≡ padded_of a.shape a.to
 size t = let y = (judging t).before.before.side-of2 in (y.ensures.1 (y.ensures.0 ∙ (given t).to-judged)).padded
 
-sub-least : tie.Need-overflow-sub-least
+sub-least : tie.Need-overflow_sub-b
 sub-least c = let t = c.before in omega (arith, size t, (given t).mark)
 
-least-requires : tie.Need-least-requires
+least-requires : tie.Need-least-count-requires
 least-requires c κs = search rules
 
 -- the cells to settle
-count : (c : tie.After-least) → let a = (start (judging c.before.before)).args in c.least.result ≡ settled (padded_of a.shape a.to) a.mark.now a.allowance
+count : (c : tie.After-least-count) → let a = (start (judging c.before)).args in c.least-count.result ≡ settled (padded_of a.shape a.to) a.mark.now a.allowance
 count c =
     let t = c.before.before in
     let a = (start (judging t)).args in
-    c.least.ensures ∙ ap (λ (k : ℕ). min a.allowance (k - a.mark.now)) (size t)
+    c.least-count.ensures ∙ ap (λ (k : ℕ). min a.allowance (k - a.mark.now)) (size t)
 
-settle-in-requires : tie.Need-settle-in-requires
+settle-in-requires : tie.Need-settle_in-requires
 settle-in-requires c κs =
     let l = c.before.before in
     let t = l.before.before in
@@ -81,13 +81,13 @@ settle-in-requires c κs =
       ((y.ensures, g.to-judged, g.to_room), omega (arith, count l, g.mark, min-le_right a.allowance (padded_of a.shape a.to - a.mark.now))),
     )
 
-enum-known-r : tie.Need-enum-known-r
+enum-known-r : tie.Need-enum_known-r
 enum-known-r c = search rules
 
-same_length : tie.Need-same-length
+same_length : tie.Need-shape_of-cells
 same_length c = search rules
 
-returns : tie.Need-returns
+returns : tie.Need-returns-in-Done
 unfolding retile_answer retile_left
 returns c =
     let k = c.before.before in
@@ -96,17 +96,17 @@ returns c =
     let a = (start (judging t)).args in
     let M : Memory = memory a.cells.now a.mark.now in (
       rw (judged t) (ap (λ (n : ℕ). done (n ∷ [])) (count l)),
-      rw (judged t) (k.settle-in.ensures ∙ ap (λ (n : ℕ). apply_all (stores (value_of a.shape a.from a.to a.source.now) a.mark.now n) M) (count l)),
+      rw (judged t) (k.settle_in.ensures ∙ ap (λ (n : ℕ). apply_all (stores (value_of a.shape a.from a.to a.source.now) a.mark.now n) M) (count l)),
     )
 
-returns-2 : tie.Need-returns-2
+returns-2 : tie.Need-returns-in-Refused
 unfolding retile_answer retile_left
 returns-2 c =
-    let e = sym (answer c.before.before.before) ∙ c.before.r.given.1 in
+    let e = sym (answer c.before) ∙ c.in-Refused.is in
     (rw e, rw e)
 
-pub retile-spec : {M : Type 1} → statement M
-retile-spec =
+pub retile_spec : {M : Type 1} → statement M
+retile_spec =
     tie.close
     (tie.spec
     side-of-requires

@@ -15,7 +15,7 @@ use Rattle.retile.proofs.settle_in.Statement.{statement}
 use Rattle.retile.proofs.settle_in.Tie as tie
 
 -- where the function starts, from the place where all parts are read
-abbrev start : tie.After-qdims → tie.Start
+abbrev start : tie.After-qdims-1 → tie.Start
 start c = c.before.before.before.before.before.before.before.before.before.before.before
 
 -- the shape with each layout is accepted, and each side is measured
@@ -27,63 +27,63 @@ module _ (s : tie.Start) where
   to-arrays = let g = s.good.1.1.1.0 in record { order = search rules; lens = search rules; tile = search rules }
 
   from-good : Accepted s.args.shape s.args.from
-  from-good = accepted s.args.shape s.args.from (search rules) from-arrays s.pre.0.1
+  from-good = accepted s.args.shape s.args.from (search rules) from-arrays s.requires.0.1
 
   to-good : Accepted s.args.shape s.args.to
-  to-good = accepted s.args.shape s.args.to (search rules) to-arrays s.pre.1.0.1
+  to-good = accepted s.args.shape s.args.to (search rules) to-arrays s.requires.1.0.1
 
   from-side : Sided s.args.shape s.args.from s.args.a
-  from-side = let g = s.good.1.1.0 in sided s.args.shape s.args.from s.args.a from-good (search rules) (search rules) s.pre.0.0 s.pre.0.1
+  from-side = let g = s.good.1.1.0 in sided s.args.shape s.args.from s.args.a from-good (search rules) (search rules) s.requires.0.0 s.requires.0.1
 
   to-side : Sided s.args.shape s.args.to s.args.b
-  to-side = let g = s.good.1.1.1.1.0 in sided s.args.shape s.args.to s.args.b to-good (search rules) (search rules) s.pre.1.0.0 s.pre.1.0.1
+  to-side = let g = s.good.1.1.1.1.0 in sided s.args.shape s.args.to s.args.b to-good (search rules) (search rules) s.requires.1.0.0 s.requires.1.0.1
 
-array-share-prefix-sizes : tie.Need-array-share-prefix-sizes
+array-share-prefix-sizes : tie.Need-slice_bounds-sizes-end
 array-share-prefix-sizes c = (from-good (start c)).limits.room
 
-slice-aggregate-run : tie.Need-slice-aggregate-run
+slice-aggregate-run : tie.Need-slice_bounds-run-end
 slice-aggregate-run c = sym (from-good (start c.before)).limits.long
 
-array-share-prefix-p : tie.Need-array-share-prefix-p
+array-share-prefix-p : tie.Need-slice_bounds-p-end
 array-share-prefix-p c = (from-side (start c.before)).order-room
 
-slice-aggregate-run-2 : tie.Need-slice-aggregate-run-2
+slice-aggregate-run-2 : tie.Need-slice_bounds-run-end-2
 slice-aggregate-run-2 c = sym (from-side (start c.before.before)).order-long
 
-array-share-prefix-plens : tie.Need-array-share-prefix-plens
+array-share-prefix-plens : tie.Need-slice_bounds-plens-end
 array-share-prefix-plens c = (from-good (start c.before.before)).kept.tile-room
 
-slice-aggregate-run-3 : tie.Need-slice-aggregate-run-3
+slice-aggregate-run-3 : tie.Need-slice_bounds-run-end-3
 slice-aggregate-run-3 c = sym (from-good (start c.before.before.before)).kept.tile-long
 
-slice-aggregate-run-4 : tie.Need-slice-aggregate-run-4
+slice-aggregate-run-4 : tie.Need-slice_bounds-run-end-4
 slice-aggregate-run-4 c = sym (from-arrays (start c.before.before.before.before)).tile
 
-array-share-prefix-pdims : tie.Need-array-share-prefix-pdims
+array-share-prefix-pdims : tie.Need-slice_bounds-pdims-end
 array-share-prefix-pdims c = (from-side (start c.before.before.before.before)).dims-room
 
-slice-aggregate-run-5 : tie.Need-slice-aggregate-run-5
+slice-aggregate-run-5 : tie.Need-slice_bounds-run-end-5
 slice-aggregate-run-5 c = sym (from-side (start c.before.before.before.before.before)).dims-long
 
-array-share-prefix-q : tie.Need-array-share-prefix-q
+array-share-prefix-q : tie.Need-slice_bounds-q-end
 array-share-prefix-q c = (to-side (start c.before.before.before.before.before)).order-room
 
-slice-aggregate-run-6 : tie.Need-slice-aggregate-run-6
+slice-aggregate-run-6 : tie.Need-slice_bounds-run-end-6
 slice-aggregate-run-6 c = sym (to-side (start c.before.before.before.before.before.before)).order-long
 
-array-share-prefix-qlens : tie.Need-array-share-prefix-qlens
+array-share-prefix-qlens : tie.Need-slice_bounds-qlens-end
 array-share-prefix-qlens c = (to-good (start c.before.before.before.before.before.before)).kept.tile-room
 
-slice-aggregate-run-7 : tie.Need-slice-aggregate-run-7
+slice-aggregate-run-7 : tie.Need-slice_bounds-run-end-7
 slice-aggregate-run-7 c = sym (to-good (start c.before.before.before.before.before.before.before)).kept.tile-long
 
-slice-aggregate-run-8 : tie.Need-slice-aggregate-run-8
+slice-aggregate-run-8 : tie.Need-slice_bounds-run-end-8
 slice-aggregate-run-8 c = sym (to-arrays (start c.before.before.before.before.before.before.before.before)).tile
 
-array-share-prefix-qdims : tie.Need-array-share-prefix-qdims
+array-share-prefix-qdims : tie.Need-slice_bounds-qdims-end
 array-share-prefix-qdims c = (to-side (start c.before.before.before.before.before.before.before.before)).dims-room
 
-slice-aggregate-run-9 : tie.Need-slice-aggregate-run-9
+slice-aggregate-run-9 : tie.Need-slice_bounds-run-end-9
 slice-aggregate-run-9 c = sym (to-side (start c.before.before.before.before.before.before.before.before.before)).dims-long
 
 run-requires : tie.Need-run-requires
@@ -97,7 +97,7 @@ run-requires c κs =
       ),
     )
 
-same_length : tie.Need-same-length
+same_length : tie.Need-shape_of-cells
 same_length c = search rules
 
 returns : tie.Need-returns
@@ -110,8 +110,8 @@ returns c =
     ∙ ap (λ (p : List ℕ). left p (take a.shape.rank a.b.order)) (from-side (start d)).order
     ∙ ap (left (order_of a.from)) (to-side (start d)).order
 
-pub settle-in-spec : {M : Type 1} → statement M
-settle-in-spec =
+pub settle_in_spec : {M : Type 1} → statement M
+settle_in_spec =
     tie.close
     (tie.spec
     array-share-prefix-sizes

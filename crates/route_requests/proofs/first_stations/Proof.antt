@@ -4,47 +4,47 @@ use borrow.Author.Rules.{rules}
 use Rattle.route_requests.proofs.first_stations.Statement.{statement}
 use Rattle.route_requests.proofs.first_stations.Tie as tie
 
-abbrev invariant-loop : tie.invariant-loop
+abbrev invariant-loop : tie.invariant-loop-left
 invariant-loop line tree read₀ left₀ read left = Unit {0}
 
-abbrev decreases-loop : tie.decreases-loop
+abbrev decreases-loop : tie.decreases-loop-left
 decreases-loop line tree read₀ left₀ read left = left
 
-no-station-requires : tie.Need-no-station-requires invariant-loop decreases-loop
+no-station-requires : tie.Need-no_station-requires invariant-loop decreases-loop
 no-station-requires c κs = search rules
 
-with-station-requires : tie.Need-with-station-requires invariant-loop decreases-loop
+with-station-requires : tie.Need-with_station-read-requires invariant-loop decreases-loop
 with-station-requires c κs = search rules
 
-loop-holds : tie.Need-loop-init invariant-loop decreases-loop
+loop-holds : tie.Need-loop-left-init invariant-loop decreases-loop
 loop-holds c = search rules
 
-is-next-requires : tie.Need-is-next-requires invariant-loop decreases-loop
+is-next-requires : tie.Need-is_next-requires invariant-loop decreases-loop
 is-next-requires c κs = search rules
 
 expect-requires : tie.Need-expect-requires invariant-loop decreases-loop
 expect-requires c κs = search rules
 
-with-station-requires-2 : tie.Need-with-station-requires-2 invariant-loop decreases-loop
+with-station-requires-2 : tie.Need-with_station-read-requires-in-loop-left invariant-loop decreases-loop
 with-station-requires-2 c κs = search rules
 
-sub-left : tie.Need-overflow-sub-left invariant-loop decreases-loop
+sub-left : tie.Need-overflow_sub-left invariant-loop decreases-loop
 sub-left c = search rules
 
-loop-less : tie.Need-loop-smaller invariant-loop decreases-loop
+loop-less : tie.Need-loop-left-smaller invariant-loop decreases-loop
 loop-less c = search rules
 
-loop-again : tie.Need-loop-preserved invariant-loop decreases-loop
+loop-again : tie.Need-loop-left-preserved invariant-loop decreases-loop
 loop-again c = search rules
 
-returns : tie.Need-returns invariant-loop decreases-loop
+returns : tie.Need-returns-else-is_next invariant-loop decreases-loop
 returns c = search rules
 
-returns-2 : tie.Need-returns-2 invariant-loop decreases-loop
+returns-2 : tie.Need-returns-after-loop-left invariant-loop decreases-loop
 returns-2 c = search rules
 
-pub first-stations-spec : {M : Type 1} → statement M
-first-stations-spec =
+pub first_stations_spec : {M : Type 1} → statement M
+first_stations_spec =
     tie.close
     (tie.spec
     invariant-loop

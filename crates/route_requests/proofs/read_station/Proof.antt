@@ -4,47 +4,47 @@ use borrow.Author.Rules.{rules}
 use Rattle.route_requests.proofs.read_station.Statement.{statement}
 use Rattle.route_requests.proofs.read_station.Tie as tie
 
-abbrev invariant-loop : tie.invariant-loop
+abbrev invariant-loop : tie.invariant-loop-left
 invariant-loop line tree place read₀ left₀ read left = Unit {0}
 
-abbrev decreases-loop : tie.decreases-loop
+abbrev decreases-loop : tie.decreases-loop-left
 decreases-loop line tree place read₀ left₀ read left = left
 
-read-parent-requires : tie.Need-read-parent-requires invariant-loop decreases-loop
+read-parent-requires : tie.Need-read_parent-named-requires invariant-loop decreases-loop
 read-parent-requires c κs = search rules
 
-no-station-requires : tie.Need-no-station-requires invariant-loop decreases-loop
+no-station-requires : tie.Need-no_station-station-requires invariant-loop decreases-loop
 no-station-requires c κs = search rules
 
-with-layout-requires : tie.Need-with-layout-requires invariant-loop decreases-loop
+with-layout-requires : tie.Need-with_layout-read-requires invariant-loop decreases-loop
 with-layout-requires c κs = search rules
 
-loop-holds : tie.Need-loop-init invariant-loop decreases-loop
+loop-holds : tie.Need-loop-left-init invariant-loop decreases-loop
 loop-holds c = search rules
 
-is-next-requires : tie.Need-is-next-requires invariant-loop decreases-loop
+is-next-requires : tie.Need-is_next-requires invariant-loop decreases-loop
 is-next-requires c κs = search rules
 
-with-layout-requires-2 : tie.Need-with-layout-requires-2 invariant-loop decreases-loop
+with-layout-requires-2 : tie.Need-with_layout-read-requires-in-loop-left invariant-loop decreases-loop
 with-layout-requires-2 c κs = search rules
 
-sub-left : tie.Need-overflow-sub-left invariant-loop decreases-loop
+sub-left : tie.Need-overflow_sub-left invariant-loop decreases-loop
 sub-left c = search rules
 
-loop-less : tie.Need-loop-smaller invariant-loop decreases-loop
+loop-less : tie.Need-loop-left-smaller invariant-loop decreases-loop
 loop-less c = search rules
 
-loop-again : tie.Need-loop-preserved invariant-loop decreases-loop
+loop-again : tie.Need-loop-left-preserved invariant-loop decreases-loop
 loop-again c = search rules
 
-returns : tie.Need-returns invariant-loop decreases-loop
+returns : tie.Need-returns-else-is_next invariant-loop decreases-loop
 returns c = search rules
 
-returns-2 : tie.Need-returns-2 invariant-loop decreases-loop
+returns-2 : tie.Need-returns-after-loop-left invariant-loop decreases-loop
 returns-2 c = search rules
 
-pub read-station-spec : {M : Type 1} → statement M
-read-station-spec =
+pub read_station_spec : {M : Type 1} → statement M
+read_station_spec =
     tie.close
     (tie.spec
     invariant-loop

@@ -16,11 +16,11 @@ good-shape-requires c κs = search rules
 
 returns : tie.Need-returns-then-not-good_shape
 unfolding element_number
-returns c = rw (sym c.before.good_shape.ensures ∙ not-true c.before.good_shape.result c.if-not-good_shape.true)
+returns c = rw (sym c.good_shape.ensures ∙ not-true c.good_shape.result c.if-not-good_shape.true-raw)
 
 -- the shape keeps its limits
-kept : (c : tie.Else-not-good_shape) → good_shape c.before.before.before.args.shape ≡ true
-kept c = sym c.before.good_shape.ensures ∙ not-false c.before.good_shape.result c.if-not-good_shape.false
+kept : (c : tie.Else-not-good_shape) → good_shape c.args.shape ≡ true
+kept c = sym c.good_shape.ensures ∙ not-false c.good_shape.result c.if-not-good_shape.false-raw
 
 judge-point-requires : tie.Need-judge_point-requires
 judge-point-requires c κs = kept c
@@ -29,11 +29,11 @@ enum_told : tie.Need-enum_told-1
 enum_told c = search rules
 
 -- the point is judged done
-judged : (c : tie.In-Done) → judge (inside_rules c.before.before.before.before.before.before.args.shape c.before.before.before.before.before.before.args.point.now) ≡ Done
-judged c = sym c.before.before.judge_point.ensures ∙ c.enum_told-1.given.1
+judged : (c : tie.In-Done) → judge (inside_rules c.args.shape c.args.point.now) ≡ Done
+judged c = sym c.judge_point.ensures ∙ c.in-Done.is
 
-good : (c : tie.In-Done) → Limits c.before.before.before.before.before.before.args.shape
-good c = limits c.before.before.before.before.before.before.args.shape (search rules) (kept c.before.before.before)
+good : (c : tie.In-Done) → Limits c.args.shape
+good c = limits c.args.shape (search rules) (kept c.before.before)
 
 array-share-prefix-sizes : tie.Need-slice_bounds-sizes-end
 array-share-prefix-sizes c = (good c.before).room
@@ -51,13 +51,13 @@ returns-2 : tie.Need-returns-in-Done
 unfolding element_number
 returns-2 c =
     let t = c.before.before.before in
-    rw (kept t.before.before.before, judged t, c.row_major-n.ensures)
+    rw (kept t.before.before, judged t, c.row_major-n.ensures)
 
 returns-3 : tie.Need-returns-in-Refused
 unfolding element_number
 returns-3 c =
-    let j = c.before.before.before in
-    rw (kept j.before, sym j.judge_point.ensures, c.before.r-1.given.1)
+    let j = c.before in
+    rw (kept j.before, sym j.judge_point.ensures, c.in-Refused.is)
 
 pub element_number_spec : {M : Type 1} → statement M
 element_number_spec =

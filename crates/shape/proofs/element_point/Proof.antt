@@ -25,24 +25,24 @@ unlocated-requires c κs = search rules
 
 returns : tie.Need-returns-then-not-good_shape
 unfolding element_point
-returns c = ap located_answer c.unlocated.ensures ∙ rw (sym c.before.before.good_shape.ensures ∙ not-true c.before.before.good_shape.result c.before.if-not-good_shape.true)
+returns c = ap located_answer c.unlocated.ensures ∙ rw (sym c.good_shape.ensures ∙ not-true c.good_shape.result c.if-not-good_shape.true-raw)
 
 -- the shape keeps its limits
-kept : (c : tie.Else-not-good_shape) → good_shape c.before.before.args.shape ≡ true
-kept c = sym c.before.good_shape.ensures ∙ not-false c.before.good_shape.result c.if-not-good_shape.false
+kept : (c : tie.Else-not-good_shape) → good_shape c.args.shape ≡ true
+kept c = sym c.good_shape.ensures ∙ not-false c.good_shape.result c.if-not-good_shape.false-raw
 
 count-of-requires : tie.Need-count_of-requires
 count-of-requires c κs = kept c
 
 -- where the element lies inside: the shape, the element, and the shape's limits
 abbrev Of : tie.Then-n-count_of → Shape
-Of c = c.before.before.before.before.args.shape
+Of c = c.args.shape
 
 abbrev N : tie.Then-n-count_of → ℕ
-N c = c.before.before.before.before.args.element.0
+N c = c.args.element.0
 
 below : (c : tie.Then-n-count_of) → N c < count_of (Of c)
-below c = subst (λ (k : ℕ). N c < k) c.before.count_of.ensures c.if-n-count_of.true
+below c = subst (λ (k : ℕ). N c < k) c.count_of.ensures c.if-n-count_of.true
 
 good : (c : tie.Then-n-count_of) → Limits (Of c)
 good c = limits (Of c) (search rules) (kept c.before.before)
@@ -60,7 +60,7 @@ digits-into-requires : tie.Need-digits_into-requires
 digits-into-requires c κs =
     let t = c.before.before.before in
     let g = good t in
-    ((omega (arith, g.rank, g.long), g.count, below t), g.sizes-1)
+    ((omega (arith, g.rank, g.long), g.count, below t), g.sizes)
 
 unlocated-requires-2 : tie.Need-unlocated-requires-else-n-count_of
 unlocated-requires-2 c κs = search rules
@@ -79,9 +79,9 @@ returns-3 : tie.Need-returns-else-n-count_of
 unfolding element_point
 returns-3 c =
     let t = c.before in
-    let n = t.before.before.before.before.args.element.0 in
+    let n = t.args.element.0 in
     ap located_answer c.unlocated-else-n-count_of.ensures
-    ∙ rw (kept t.before.before, le-ltb _ _ (subst (λ (k : ℕ). k ≤ n) t.before.count_of.ensures t.if-n-count_of.false))
+    ∙ rw (kept t.before.before, le-ltb _ _ (subst (λ (k : ℕ). k ≤ n) t.count_of.ensures t.if-n-count_of.false))
 
 pub element_point_spec : {M : Type 1} → statement M
 element_point_spec =

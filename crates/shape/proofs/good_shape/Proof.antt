@@ -14,13 +14,13 @@ use Rattle.shape.proofs.good_shape.Statement.{statement}
 use Rattle.shape.proofs.good_shape.Tie as tie
 
 -- where the rank is at most 6
-len : (c : tie.Else-rank-gt-MAX_RANK) → (c.before.args.shape.rank ≤ length c.before.args.shape.sizes-1) × (length (sizes_of c.before.args.shape) ≡ c.before.args.shape.rank)
-len c = prefix c.before.args.shape (search rules) c.if-rank-gt-MAX_RANK.false
+len : (c : tie.Else-rank-gt-MAX_RANK) → (c.args.shape.rank ≤ length c.args.shape.sizes) × (length (sizes_of c.args.shape) ≡ c.args.shape.rank)
+len c = prefix c.args.shape (search rules) c.if-rank-gt-MAX_RANK.false
 
 returns : tie.Need-returns-then-rank-gt-MAX_RANK
 unfolding good_shape
 returns c =
-    let s = c.before.args.shape in
+    let s = c.args.shape in
     sym (ap (λ (b : Bool). b && (is_within max_size (sizes_of s) && leb (count_of s) max_count)) (lt-leb s.rank max_rank c.if-rank-gt-MAX_RANK.true))
 
 array-share-prefix-sizes : tie.Need-slice_bounds-sizes-end
@@ -40,22 +40,22 @@ slice-aggregate-product c = sym (len c.before.before.before.before.before).1
 
 product-requires : tie.Need-product-requires
 product-requires c κs =
-    let s = c.before.before.before.before.before.before.args.shape in
-    bounded_of max_size (sizes_of s) (sym c.before.before.within.ensures ∙ c.before.if-within.true)
+    let s = c.args.shape in
+    bounded_of max_size (sizes_of s) (sym c.within.ensures ∙ c.if-within.true)
 
 returns-2 : tie.Need-returns-then-within
 unfolding good_shape
 returns-2 c =
-    let s = c.before.before.before.before.before.before.before.args.shape in
+    let s = c.args.shape in
     ap (λ (x : ℕ). leb x max_count) c.product.ensures ∙ capped (count_of s)
-    ∙ sym (ap (λ (b : Bool). b && (is_within max_size (sizes_of s) && leb (count_of s) max_count)) (le-leb s.rank max_rank c.before.before.before.before.before.before.if-rank-gt-MAX_RANK.false)
-    ∙ ap (λ (b : Bool). b && leb (count_of s) max_count) (sym c.before.before.before.within.ensures ∙ c.before.before.if-within.true))
+    ∙ sym (ap (λ (b : Bool). b && (is_within max_size (sizes_of s) && leb (count_of s) max_count)) (le-leb s.rank max_rank c.if-rank-gt-MAX_RANK.false)
+    ∙ ap (λ (b : Bool). b && leb (count_of s) max_count) (sym c.within.ensures ∙ c.if-within.true))
 
 returns-3 : tie.Need-returns-else-within
 unfolding good_shape
 returns-3 c =
-    let s = c.before.before.before.before.before.args.shape in
-    sym (and-false (leb s.rank max_rank) (ap (λ (b : Bool). b && leb (count_of s) max_count) (sym c.before.within.ensures ∙ c.if-within.false)))
+    let s = c.args.shape in
+    sym (and-false (leb s.rank max_rank) (ap (λ (b : Bool). b && leb (count_of s) max_count) (sym c.within.ensures ∙ c.if-within.false)))
 
 pub good_shape_spec : {M : Type 1} → statement M
 good_shape_spec =

@@ -9,27 +9,27 @@ use borrow.Author.Rules.{rules}
 use Rattle.tree_planner.proofs.copy_row.Statement.{statement}
 use Rattle.tree_planner.proofs.copy_row.Tie as tie
 
-abbrev invariant-loop : tie.invariant-loop
+abbrev invariant-loop : tie.invariant-loop-k
 invariant-loop table₀ row room columns k₀ table k = (k ≤ columns) × Row table₀ table row k (λ x. weight_at room (8 * 64 + x))
 
-abbrev decreases-loop : tie.decreases-loop
+abbrev decreases-loop : tie.decreases-loop-k
 decreases-loop table₀ row room columns k₀ table k = columns - k
 
-loop-holds : tie.Need-loop-init invariant-loop decreases-loop
+loop-holds : tie.Need-loop-k-init invariant-loop decreases-loop
 loop-holds c =
     let s = c.before.before in
     (omega arith, row-none _ _ _ s.requires.0.sound)
 
-mul-store : tie.Need-overflow-mul-store invariant-loop decreases-loop
+mul-store : tie.Need-overflow_mul-row invariant-loop decreases-loop
 mul-store c = search rules
 
-add-store : tie.Need-overflow-add-store invariant-loop decreases-loop
+add-store : tie.Need-overflow_add-row invariant-loop decreases-loop
 add-store c = search rules
 
-mul-load : tie.Need-overflow-mul-load invariant-loop decreases-loop
+mul-load : tie.Need-overflow_mul-load invariant-loop decreases-loop
 mul-load c = search rules
 
-add-load : tie.Need-overflow-add-load invariant-loop decreases-loop
+add-load : tie.Need-overflow_add-k invariant-loop decreases-loop
 add-load c = search rules
 
 load-requires : tie.Need-load-requires invariant-loop decreases-loop
@@ -40,33 +40,33 @@ load-requires c κs =
 store-requires : tie.Need-store-requires invariant-loop decreases-loop
 store-requires c κs =
     let s = c.before.before.before.before.before.before in
-    let i = c.before.before.before.loop.invariant in
+    let i = c.loop-k.invariant in
     (omega (arith, s.requires.2, s.requires.3), omega (arith, i.1.long, s.requires.0.long, s.requires.2, s.requires.3))
 
-add-k : tie.Need-overflow-add-k invariant-loop decreases-loop
+add-k : tie.Need-overflow_add-k-in-loop-k invariant-loop decreases-loop
 add-k c = search rules
 
-loop-less : tie.Need-loop-smaller invariant-loop decreases-loop
+loop-less : tie.Need-loop-k-smaller invariant-loop decreases-loop
 loop-less c = omega arith
 
-loop-again : tie.Need-loop-preserved invariant-loop decreases-loop
+loop-again : tie.Need-loop-k-preserved invariant-loop decreases-loop
 loop-again c =
     let s = c.before.before.before.before.before.before.before.before.before in
-    let i = c.before.before.before.before.before.before.loop.invariant in (
+    let i = c.loop-k.invariant in (
       omega arith,
       row_next _ _ _ _ _ _ _ (omega (arith, s.requires.3)) i.1 refl
-          (entry-stored _ _ _ _ _ i.1.sound (good-at _ _ _ s.requires.1.sound c.before.before.before.load.ensures) (ap value_of c.before.before.before.load.ensures)
-          c.before.before.store.ensures),
+          (entry-stored _ _ _ _ _ i.1.sound (good-at _ _ _ s.requires.1.sound c.load.ensures) (ap value_of c.load.ensures)
+          c.store.ensures),
     )
 
-same_length : tie.Need-same-length invariant-loop decreases-loop
-same_length c = c.before.loop.invariant.1.long
+same_length : tie.Need-shape_of-table invariant-loop decreases-loop
+same_length c = c.loop-k.invariant.1.long
 
 returns : tie.Need-returns invariant-loop decreases-loop
-returns c = row-end _ _ _ _ _ _ c.before.loop.invariant.0 c.loop-test.false c.before.loop.invariant.1
+returns c = row-end _ _ _ _ _ _ c.loop-k.invariant.0 c.loop-k-test.false c.loop-k.invariant.1
 
-pub copy-row-spec : {M : Type 1} → statement M
-copy-row-spec =
+pub copy_row_spec : {M : Type 1} → statement M
+copy_row_spec =
     tie.close
     (tie.spec
     invariant-loop

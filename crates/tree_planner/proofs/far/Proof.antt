@@ -6,5 +6,5 @@ use Rattle.tree_planner.proofs.far.Tie as tie
 returns : tie.Need-returns
 returns c = (far-value, far-good)
 
-pub far-spec : {M : Type 1} → statement M
-far-spec = tie.close (tie.spec returns)
+pub far_spec : {M : Type 1} → statement M
+far_spec = tie.close (tie.spec returns)

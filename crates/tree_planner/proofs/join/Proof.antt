@@ -9,24 +9,24 @@ use Rattle.tree_planner.proofs.Linking.{together-kept}
 use Rattle.tree_planner.proofs.join.Statement.{statement}
 use Rattle.tree_planner.proofs.join.Tie as tie
 
-abbrev invariant-loop : tie.invariant-loop
+abbrev invariant-loop : tie.invariant-loop-a
 invariant-loop sizes cells u count merged table₀ room₀ columns a₀ table room a =
     (a ≤ count)
     × Rows table₀ table (u * 8) a columns (λ x. together (held merged table₀ sizes cells u x) room₀ x)
     × Kept room₀ room
 
-abbrev decreases-loop : tie.decreases-loop
+abbrev decreases-loop : tie.decreases-loop-a
 decreases-loop sizes cells u count merged table₀ room₀ columns a₀ table room a = count - a
 
-loop-holds : tie.Need-loop-init invariant-loop decreases-loop
+loop-holds : tie.Need-loop-a-init invariant-loop decreases-loop
 loop-holds c =
     let s = c.before.before.before in
     (omega arith, rows_start _ _ _ _ s.requires.0.2.sound, kept_same _ s.requires.0.3.sound)
 
-join-row-requires : tie.Need-join-row-requires invariant-loop decreases-loop
+join-row-requires : tie.Need-join_row-requires invariant-loop decreases-loop
 join-row-requires c κs =
     let s = c.before.before.before.before.before.before.before in
-    let i = c.before.before.before.loop.invariant in (
+    let i = c.loop-a.invariant in (
       (
         s.requires.0.0,
         s.requires.0.1,
@@ -36,37 +36,37 @@ join-row-requires c κs =
       (s.requires.1.0, omega (arith, s.requires.1), s.requires.1.2),
     )
 
-add_a : tie.Need-overflow-add-a invariant-loop decreases-loop
+add_a : tie.Need-overflow_add-a invariant-loop decreases-loop
 add_a c =
     let s = c.before.before.before.before.before.before.before.before.before.before.before.before in
     omega (arith, s.requires.1)
 
-loop-less : tie.Need-loop-smaller invariant-loop decreases-loop
+loop-less : tie.Need-loop-a-smaller invariant-loop decreases-loop
 loop-less c = omega arith
 
-loop-again : tie.Need-loop-preserved invariant-loop decreases-loop
+loop-again : tie.Need-loop-a-preserved invariant-loop decreases-loop
 loop-again c =
     let s = c.before.before.before.before.before.before.before.before.before.before.before.before in
-    let i = c.before.before.before.before.before.before.before.before.loop.invariant in (
+    let i = c.loop-a.invariant in (
       omega arith,
       rows_next _ _ _ _ _ _ _ _ _ s.requires.1.2 refl
           (λ x l. together-kept _ _ _ _ _ _ _ _ _ _ _ x (omega (arith, s.requires.1)) (omega (arith, s.requires.1)) i.1 i.2)
           i.1
-          c.before.before.before.before.join-row.ensures.0,
-      kept_then _ _ _ i.2 c.before.before.before.before.join-row.ensures.1,
+          c.join_row.ensures.0,
+      kept_then _ _ _ i.2 c.join_row.ensures.1,
     )
 
-same_length : tie.Need-same-length invariant-loop decreases-loop
-same_length c = c.before.loop.invariant.1.long
+same_length : tie.Need-shape_of-table invariant-loop decreases-loop
+same_length c = c.loop-a.invariant.1.long
 
-same-length-2 : tie.Need-same-length-2 invariant-loop decreases-loop
-same-length-2 c = c.before.loop.invariant.2.long
+same-length-2 : tie.Need-shape_of-room invariant-loop decreases-loop
+same-length-2 c = c.loop-a.invariant.2.long
 
 returns : tie.Need-returns invariant-loop decreases-loop
-returns c = (rows_end _ _ _ _ _ _ _ c.before.loop.invariant.0 c.loop-test.false c.before.loop.invariant.1, c.before.loop.invariant.2)
+returns c = (rows_end _ _ _ _ _ _ _ c.loop-a.invariant.0 c.loop-a-test.false c.loop-a.invariant.1, c.loop-a.invariant.2)
 
-pub join-spec : {M : Type 1} → statement M
-join-spec =
+pub join_spec : {M : Type 1} → statement M
+join_spec =
     tie.close
     (tie.spec
     invariant-loop

@@ -6,20 +6,20 @@ use borrow.Author.Rules.{rules}
 use Rattle.tree_planner.proofs.least_weight.Statement.{statement}
 use Rattle.tree_planner.proofs.least_weight.Tie as tie
 
-add-columns : tie.Need-overflow-add-columns
+add-columns : tie.Need-overflow_add-columns
 add-columns c = search rules
 
-merge-all-requires : tie.Need-merge-all-requires
+merge-all-requires : tie.Need-merge_all-requires
 merge-all-requires c κs =
     let s = c.before.before.before.before.before.before.before.before in
     (s.requires.0.0, (s.requires.1.0, s.requires.1.1, record { some = omega arith; few = omega (arith, s.requires.0.1) }))
 
-shared-slice-read-count : tie.Need-shared-slice-read-count
+shared-slice-read-count : tie.Need-bounds-counts-0
 shared-slice-read-count c =
     let s = c.before.before.before.before.before.before.before.before.before.before.before.before.before.before in
     omega (arith, s.requires.0.0.counts-in)
 
-has-child-requires : tie.Need-has-child-requires
+has-child-requires : tie.Need-has_child-branch-requires
 has-child-requires c κs =
     let s = c.before.before.before.before.before.before.before.before.before.before.before.before.before.before in
     (s.requires.0.0.parents-in, s.requires.0.0.few, s.requires.0.0.some)
@@ -30,7 +30,7 @@ ready-requires c κs =
       (
         s.requires.0.0.sizes-in,
         s.requires.0.0.cells_in,
-        record { sound = c.before.before.before.before.before.before.before.merge-all.ensures.sound; long = c.before.before.before.before.before.before.before.merge-all.ensures.long },
+        record { sound = c.merge_all.ensures.sound; long = c.merge_all.ensures.long },
       ),
       (omega arith, s.requires.0.0.count 0, omega (arith, s.requires.0.1)),
     )
@@ -38,25 +38,25 @@ ready-requires c κs =
 least-requires : tie.Need-least-requires
 least-requires c κs =
     let s = c.before.before.before.before.before.before.before.before.before.before.before.before.before.before.before.before.before.before.before.before in (
-      record { sound = c.before.before.before.ready.ensures.sound; long = c.before.before.before.ready.ensures.long ∙ c.before.before.before.before.before.before.before.before.before.before.before.merge-all.ensures.long },
+      record { sound = c.ready.ensures.sound; long = c.ready.ensures.long ∙ c.merge_all.ensures.long },
       s.requires.0.0.count 0,
       s.requires.0.1,
     )
 
-same_length : tie.Need-same-length
+same_length : tie.Need-shape_of-table
 same_length c = search rules
 
-same-length-2 : tie.Need-same-length-2
+same-length-2 : tie.Need-shape_of-room
 same-length-2 c = search rules
 
 returns : tie.Need-returns
 returns c = (
-  least-is _ _ _ _ _ _ _ _ _ c.before.before.before.before.before.before.before.before.before.before.before.before.merge-all.ensures _ c.before.before.before.before.before.before.has-child.ensures c.before.before.before.before.ready.ensures _ c.least.ensures.0,
+  least-is _ _ _ _ _ _ _ _ _ c.merge_all.ensures _ c.has_child-branch.ensures c.ready.ensures _ c.least.ensures.0,
   c.least.ensures.1.words,
 )
 
-pub least-weight-spec : {M : Type 1} → statement M
-least-weight-spec =
+pub least_weight_spec : {M : Type 1} → statement M
+least_weight_spec =
     tie.close
     (tie.spec
     add-columns

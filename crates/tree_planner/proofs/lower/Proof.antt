@@ -4,24 +4,24 @@ use borrow.Author.Rules.{rules}
 use Rattle.tree_planner.proofs.lower.Statement.{statement}
 use Rattle.tree_planner.proofs.lower.Tie as tie
 
-mul-if1 : tie.Need-overflow-mul-if1
+mul-if1 : tie.Need-overflow_mul-at
 mul-if1 c = search rules
 
-mul-if1-2 : tie.Need-overflow-mul-if1-2
+mul-if1-2 : tie.Need-offset_bounds-table-at
 mul-if1-2 c = search rules
 
-slice-read-if1 : tie.Need-slice-read-if1
+slice-read-if1 : tie.Need-bounds-table-at
 slice-read-if1 c = search rules
 
-add-if1 : tie.Need-overflow-add-if1
+add-if1 : tie.Need-overflow_add-x
 add-if1 c = search rules
 
-returns : tie.Need-returns
+returns : tie.Need-returns-then-table-at
 returns c =
     let s = c.before.before.before.before.before in
-    entry-above _ _ _ _ s.requires.0 c.if1.true
+    entry-above _ _ _ _ s.requires.0 c.if-table-at.true
 
-sum-requires : tie.Need-sum-requires
+sum-requires : tie.Need-sum-w-requires
 sum-requires c κs = search rules
 
 load-requires : tie.Need-load-requires
@@ -30,26 +30,26 @@ load-requires c κs = search rules
 less-requires : tie.Need-less-requires
 less-requires c κs =
     let s = c.before.before.before.before.before.before.before.before in
-    (c.before.before.sum.ensures.1, (good-at _ _ _ s.requires.0 c.load.ensures).words)
+    (c.sum-w.ensures.1, (good-at _ _ _ s.requires.0 c.load.ensures).words)
 
 store-requires : tie.Need-store-requires
 store-requires c κs = search rules
 
-same_length : tie.Need-same-length
+same_length : tie.Need-shape_of-table-then-less
 same_length c = search rules
 
-returns-2 : tie.Need-returns-2
+returns-2 : tie.Need-returns-then-less
 returns-2 c =
     let s = c.before.before.before.before.before.before.before.before.before.before.before.before.before.before in
-    entry-lower _ _ _ _ s.requires.0 _ _ c.before.before.before.before.before.before.before.before.sum.ensures.1 c.before.before.before.before.before.before.before.before.sum.ensures.0 c.before.before.before.before.before.before.load.ensures _ c.before.before.before.before.before.less.ensures _ c.before.before.before.before.if2.true c.before.before.store.ensures
+    entry-lower _ _ _ _ s.requires.0 _ _ c.sum-w.ensures.1 c.sum-w.ensures.0 c.load.ensures _ c.less.ensures _ c.if-less.true c.store.ensures
 
-same-length-2 : tie.Need-same-length-2
+same-length-2 : tie.Need-shape_of-table-else-less
 same-length-2 c = search rules
 
-returns-3 : tie.Need-returns-3
+returns-3 : tie.Need-returns-else-less
 returns-3 c =
     let s = c.before.before.before.before.before.before.before.before.before.before in
-    entry_kept _ _ _ _ s.requires.0 _ _ c.before.before.before.before.sum.ensures.1 c.before.before.before.before.sum.ensures.0 c.before.before.load.ensures _ c.before.less.ensures c.if2.false
+    entry_kept _ _ _ _ s.requires.0 _ _ c.sum-w.ensures.1 c.sum-w.ensures.0 c.load.ensures _ c.less.ensures c.if-less.false
 
 pub lower_spec : {M : Type 1} → statement M
 lower_spec =

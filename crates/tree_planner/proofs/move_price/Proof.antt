@@ -5,12 +5,12 @@ use Rattle.plan.specs.Net.{price}
 use Rattle.tree_planner.proofs.move_price.Statement.{statement}
 use Rattle.tree_planner.proofs.move_price.Tie as tie
 
-add-result : tie.Need-overflow-add-result
+add-result : tie.Need-overflow_add-result
 add-result c = omega arith
 
 returns : tie.Need-returns
 unfolding price
 returns c = (refl, omega arith)
 
-pub move-price-spec : {M : Type 1} → statement M
-move-price-spec = tie.close (tie.spec add-result returns)
+pub move_price_spec : {M : Type 1} → statement M
+move_price_spec = tie.close (tie.spec add-result returns)

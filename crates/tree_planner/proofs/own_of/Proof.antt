@@ -4,90 +4,90 @@ use borrow.Author.Rules.{rules}
 use Rattle.tree_planner.proofs.own_of.Statement.{statement}
 use Rattle.tree_planner.proofs.own_of.Tie as tie
 
-mul-size : tie.Need-overflow-mul-size
+mul-size : tie.Need-overflow_mul-size
 mul-size c = search rules
 
-add-size : tie.Need-overflow-add-size
+add-size : tie.Need-overflow_add-size
 add-size c = search rules
 
-mul-size-2 : tie.Need-overflow-mul-size-2
+mul-size-2 : tie.Need-offset_bounds-sizes-i
 mul-size-2 c = search rules
 
-shared-slice-read-size : tie.Need-shared-slice-read-size
+shared-slice-read-size : tie.Need-bounds-sizes-i
 shared-slice-read-size c = search rules
 
 far-requires : tie.Need-far-requires
 far-requires c κs = search rules
 
-returns : tie.Need-returns
+returns : tie.Need-returns-then-cells-size
 returns c =
     let s = c.before.before.before.before in
-    (own-none _ _ _ _ s.requires.1 s.requires.3 c.before.if1.true _ c.far.ensures.0, c.far.ensures.1)
+    (own-none _ _ _ _ s.requires.1 s.requires.3 c.if-cells-size.true _ c.far.ensures.0, c.far.ensures.1)
 
-mul-w : tie.Need-overflow-mul-w
+mul-w : tie.Need-overflow_mul-w
 mul-w c = search rules
 
-mul-w-2 : tie.Need-overflow-mul-w-2
+mul-w-2 : tie.Need-overflow_mul-w-then-i-eq0
 mul-w-2 c = search rules
 
-add-w : tie.Need-overflow-add-w
+add-w : tie.Need-overflow_add-w
 add-w c = search rules
 
-returns-2 : tie.Need-returns-2
+returns-2 : tie.Need-returns-then-i-eq0
 returns-2 c =
     let s = c.before.before.before.before in
-    own_first _ _ _ _ s.requires.1 s.requires.3 c.if2.true c.before.if1.false
+    own_first _ _ _ _ s.requires.1 s.requires.3 c.if-i-eq0.true c.if-cells-size.false
 
-sub-eights : tie.Need-overflow-sub-eights
+sub-eights : tie.Need-overflow_sub-i
 sub-eights c = search rules
 
 eights-requires : tie.Need-eights-requires
 eights-requires c κs = search rules
 
-mul-w-3 : tie.Need-overflow-mul-w-3
+mul-w-3 : tie.Need-overflow_mul-w-then-i-lt22
 mul-w-3 c =
     let s = c.before.before.before.before.before.before in
     record { fits = digit-fits _ _ s.requires.3 c.eights.ensures.1 }
 
-returns-3 : tie.Need-returns-3
+returns-3 : tie.Need-returns-then-i-lt22
 returns-3 c =
     let s = c.before.before.before.before.before.before in
-    own-high _ _ _ _ s.requires.1 s.requires.3 _ c.eights.ensures.1 c.before.if3.true c.before.before.before.if1.false c.eights.ensures.0
+    own-high _ _ _ _ s.requires.1 s.requires.3 _ c.eights.ensures.1 c.if-i-lt22.true c.if-cells-size.false c.eights.ensures.0
 
-sub-eights-2 : tie.Need-overflow-sub-eights-2
+sub-eights-2 : tie.Need-overflow_sub-i-then-i-lt43
 sub-eights-2 c = search rules
 
-eights-requires-2 : tie.Need-eights-requires-2
+eights-requires-2 : tie.Need-eights-requires-then-i-lt43
 eights-requires-2 c κs = search rules
 
-mul-w-4 : tie.Need-overflow-mul-w-4
+mul-w-4 : tie.Need-overflow_mul-w-then-i-lt43
 mul-w-4 c =
     let s = c.before.before.before.before.before.before.before in
-    record { fits = digit-fits _ _ s.requires.3 c.eights2.ensures.1 }
+    record { fits = digit-fits _ _ s.requires.3 c.eights-then-i-lt43.ensures.1 }
 
-returns-4 : tie.Need-returns-4
+returns-4 : tie.Need-returns-then-i-lt43
 returns-4 c =
     let s = c.before.before.before.before.before.before.before in
-    own-mid _ _ _ _ s.requires.1 s.requires.3 _ c.eights2.ensures.1 c.before.if4.true c.before.before.before.before.if1.false c.eights2.ensures.0
+    own-mid _ _ _ _ s.requires.1 s.requires.3 _ c.eights-then-i-lt43.ensures.1 c.if-i-lt43.true c.if-cells-size.false c.eights-then-i-lt43.ensures.0
 
-sub-eights-3 : tie.Need-overflow-sub-eights-3
+sub-eights-3 : tie.Need-overflow_sub-i-2
 sub-eights-3 c = search rules
 
-eights-requires-3 : tie.Need-eights-requires-3
+eights-requires-3 : tie.Need-eights-requires-2
 eights-requires-3 c κs = search rules
 
-mul-w-5 : tie.Need-overflow-mul-w-5
+mul-w-5 : tie.Need-overflow_mul-w-2
 mul-w-5 c =
     let s = c.before.before.before.before.before.before.before in
-    record { fits = digit-fits _ _ s.requires.3 c.eights3.ensures.1 }
+    record { fits = digit-fits _ _ s.requires.3 c.eights-2.ensures.1 }
 
-returns-5 : tie.Need-returns-5
+returns-5 : tie.Need-returns
 returns-5 c =
     let s = c.before.before.before.before.before.before.before in
-    own-low _ _ _ _ s.requires.1 s.requires.3 _ c.eights3.ensures.1 c.before.before.before.before.if1.false c.eights3.ensures.0
+    own-low _ _ _ _ s.requires.1 s.requires.3 _ c.eights-2.ensures.1 c.if-cells-size.false c.eights-2.ensures.0
 
-pub own-of-spec : {M : Type 1} → statement M
-own-of-spec =
+pub own_of_spec : {M : Type 1} → statement M
+own_of_spec =
     tie.close
     (tie.spec
     mul-size

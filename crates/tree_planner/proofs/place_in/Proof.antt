@@ -5,47 +5,47 @@ use borrow.Author.Rules.{rules}
 use Rattle.tree_planner.proofs.place_in.Statement.{statement}
 use Rattle.tree_planner.proofs.place_in.Tie as tie
 
-returns : tie.Need-returns
-returns c = place-first _ c.before.before.requires.0 _ c.before.if1.true
+returns : tie.Need-returns-then-i-eq0
+returns c = place-first _ c.requires.0 _ c.if-i-eq0.true
 
-sub-eights : tie.Need-overflow-sub-eights
+sub-eights : tie.Need-overflow_sub-i
 sub-eights c = search rules
 
 eights-requires : tie.Need-eights-requires
 eights-requires c κs = search rules
 
-div-result : tie.Need-nonzero-div-result
-div-result c = power-some _ _ c.before.eights.ensures.0
+div-result : tie.Need-nonzero_div-result
+div-result c = power-some _ _ c.eights.ensures.0
 
-returns-2 : tie.Need-returns-2
-returns-2 c = place-high _ c.before.before.before.before.requires.0 _ _ (omega arith) c.before.before.if2.true c.before.eights.ensures.0
+returns-2 : tie.Need-returns-then-i-lt22
+returns-2 c = place-high _ c.requires.0 _ _ (omega arith) c.if-i-lt22.true c.eights.ensures.0
 
-sub-eights-2 : tie.Need-overflow-sub-eights-2
+sub-eights-2 : tie.Need-overflow_sub-i-then-i-lt43
 sub-eights-2 c = search rules
 
-eights-requires-2 : tie.Need-eights-requires-2
+eights-requires-2 : tie.Need-eights-requires-then-i-lt43
 eights-requires-2 c κs = search rules
 
-div-result-2 : tie.Need-nonzero-div-result-2
-div-result-2 c = power-some _ _ c.before.eights2.ensures.0
+div-result-2 : tie.Need-nonzero_div-result-then-i-lt43
+div-result-2 c = power-some _ _ c.eights-then-i-lt43.ensures.0
 
-returns-3 : tie.Need-returns-3
-returns-3 c = place-mid _ c.before.before.before.before.before.requires.0 _ _ (omega arith) c.before.before.if3.true c.before.eights2.ensures.0
+returns-3 : tie.Need-returns-then-i-lt43
+returns-3 c = place-mid _ c.requires.0 _ _ (omega arith) c.if-i-lt43.true c.eights-then-i-lt43.ensures.0
 
-sub-eights-3 : tie.Need-overflow-sub-eights-3
+sub-eights-3 : tie.Need-overflow_sub-i-2
 sub-eights-3 c = search rules
 
-eights-requires-3 : tie.Need-eights-requires-3
+eights-requires-3 : tie.Need-eights-requires-2
 eights-requires-3 c κs = search rules
 
-div-result-3 : tie.Need-nonzero-div-result-3
-div-result-3 c = power-some _ _ c.before.eights3.ensures.0
+div-result-3 : tie.Need-nonzero_div-result-2
+div-result-3 c = power-some _ _ c.eights-2.ensures.0
 
-returns-4 : tie.Need-returns-4
-returns-4 c = place-low _ c.before.before.before.before.before.requires.0 _ _ (omega arith) c.before.eights3.ensures.0
+returns-4 : tie.Need-returns
+returns-4 c = place-low _ c.requires.0 _ _ (omega arith) c.eights-2.ensures.0
 
-pub place-in-spec : {M : Type 1} → statement M
-place-in-spec =
+pub place_in_spec : {M : Type 1} → statement M
+place_in_spec =
     tie.close
     (tie.spec
     returns

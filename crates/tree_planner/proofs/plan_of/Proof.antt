@@ -4,21 +4,21 @@ use borrow.Author.Rules.{rules}
 use Rattle.tree_planner.proofs.plan_of.Statement.{statement}
 use Rattle.tree_planner.proofs.plan_of.Tie as tie
 
-returns : tie.Need-returns
+returns : tie.Need-returns-then-w-ge-FAR
 returns c =
     let s = c.before.before in
-    plan-none _ s.requires.0 _ c.if1.true
+    plan-none _ s.requires.0 _ c.if-w-ge-FAR.true
 
-places-of-requires : tie.Need-places-of-requires
+places-of-requires : tie.Need-places_of-places-requires
 places-of-requires c κs = search rules
 
-returns-2 : tie.Need-returns-2
+returns-2 : tie.Need-returns
 returns-2 c =
     let s = c.before.before.before.before in
-    plan-some _ s.requires.0 _ _ c.before.before.if1.false c.before.places_of.ensures
+    plan-some _ s.requires.0 _ _ c.if-w-ge-FAR.false c.places_of-places.ensures
 
-pub plan-of-spec : {M : Type 1} → statement M
-plan-of-spec =
+pub plan_of_spec : {M : Type 1} → statement M
+plan_of_spec =
     tie.close
     (tie.spec
     returns

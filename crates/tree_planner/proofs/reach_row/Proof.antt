@@ -12,16 +12,16 @@ use borrow.Author.Rules.{rules}
 use Rattle.tree_planner.proofs.reach_row.Statement.{statement}
 use Rattle.tree_planner.proofs.reach_row.Tie as tie
 
-abbrev invariant-loop : tie.invariant-loop
+abbrev invariant-loop : tie.invariant-loop-b
 invariant-loop sizes moved table u v count a room₀ columns b₀ room b = (b ≤ count) × Row room₀ room a columns (λ k. lowest far_weight b (linked sizes moved table u v a k))
 
-abbrev decreases-loop : tie.decreases-loop
+abbrev decreases-loop : tie.decreases-loop-b
 decreases-loop sizes moved table u v count a room₀ columns b₀ room b = count - b
 
 far-requires : tie.Need-far-requires invariant-loop decreases-loop
 far-requires c κs = search rules
 
-start-row-requires : tie.Need-start-row-requires invariant-loop decreases-loop
+start-row-requires : tie.Need-start_row-requires invariant-loop decreases-loop
 start-row-requires c κs =
     let s = c.before.before.before.before.before.before in (
       s.requires.0.2.sound,
@@ -31,113 +31,113 @@ start-row-requires c κs =
       s.requires.1.4.few,
     )
 
-loop-holds : tie.Need-loop-init invariant-loop decreases-loop
-loop-holds c = (omega arith, lowest_start _ _ _ _ _ _ c.before.before.before.far.ensures.0 c.before.before.start-row.ensures)
+loop-holds : tie.Need-loop-b-init invariant-loop decreases-loop
+loop-holds c = (omega arith, lowest_start _ _ _ _ _ _ c.far.ensures.0 c.start_row.ensures)
 
-mul-taken : tie.Need-overflow-mul-taken invariant-loop decreases-loop
+mul-taken : tie.Need-overflow_mul-taken invariant-loop decreases-loop
 mul-taken c =
     let s = c.before.before.before.before.before.before.before.before.before.before.before in
     omega (arith, s.requires.1)
 
-add-taken : tie.Need-overflow-add-taken invariant-loop decreases-loop
+add-taken : tie.Need-overflow_add-taken invariant-loop decreases-loop
 add-taken c =
     let s = c.before.before.before.before.before.before.before.before.before.before.before in
     omega (arith, s.requires.1)
 
-mul-taken-2 : tie.Need-overflow-mul-taken-2 invariant-loop decreases-loop
+mul-taken-2 : tie.Need-overflow_mul-taken-in-loop-b invariant-loop decreases-loop
 mul-taken-2 c =
     let s = c.before.before.before.before.before.before.before.before.before.before.before in
     omega (arith, s.requires.1)
 
-add-taken-2 : tie.Need-overflow-add-taken-2 invariant-loop decreases-loop
+add-taken-2 : tie.Need-overflow_add-taken-in-loop-b invariant-loop decreases-loop
 add-taken-2 c =
     let s = c.before.before.before.before.before.before.before.before.before.before.before in
     omega (arith, s.requires.1)
 
-mul-taken-3 : tie.Need-overflow-mul-taken-3 invariant-loop decreases-loop
+mul-taken-3 : tie.Need-offset_bounds-moved-v invariant-loop decreases-loop
 mul-taken-3 c =
     let s = c.before.before.before.before.before.before.before.before.before.before.before in
     omega (arith, s.requires.1)
 
-shared-slice-read-taken : tie.Need-shared-slice-read-taken invariant-loop decreases-loop
+shared-slice-read-taken : tie.Need-bounds-moved-v invariant-loop decreases-loop
 shared-slice-read-taken c =
     let s = c.before.before.before.before.before.before.before.before.before.before.before.before in
     omega (arith, s.requires.1, s.requires.0.0.moved_in)
 
-mul-link-weight : tie.Need-overflow-mul-link-weight invariant-loop decreases-loop
+mul-link-weight : tie.Need-overflow_mul-u invariant-loop decreases-loop
 mul-link-weight c =
     let s = c.before.before.before.before.before.before.before.before.before.before.before.before in
     omega (arith, s.requires.1)
 
-add-link-weight : tie.Need-overflow-add-link-weight invariant-loop decreases-loop
+add-link-weight : tie.Need-overflow_add-u invariant-loop decreases-loop
 add-link-weight c =
     let s = c.before.before.before.before.before.before.before.before.before.before.before.before in
     omega (arith, s.requires.1)
 
-mul-link-weight-2 : tie.Need-overflow-mul-link-weight-2 invariant-loop decreases-loop
+mul-link-weight-2 : tie.Need-overflow_mul-v invariant-loop decreases-loop
 mul-link-weight-2 c =
     let s = c.before.before.before.before.before.before.before.before.before.before.before.before in
     omega (arith, s.requires.1)
 
-add-link-weight-2 : tie.Need-overflow-add-link-weight-2 invariant-loop decreases-loop
+add-link-weight-2 : tie.Need-overflow_add-v invariant-loop decreases-loop
 add-link-weight-2 c =
     let s = c.before.before.before.before.before.before.before.before.before.before.before.before in
     omega (arith, s.requires.1)
 
-link-weight-requires : tie.Need-link-weight-requires invariant-loop decreases-loop
+link-weight-requires : tie.Need-link_weight-extra-requires invariant-loop decreases-loop
 link-weight-requires c κs =
     let s = c.before.before.before.before.before.before.before.before.before.before.before.before in (
       (s.requires.0.0.sizes-in, s.requires.0.0.low),
-      (omega (arith, s.requires.0.0.ones ((s.args.v * 8 + s.args.a) * 8 + c.before.before.loop.b)), omega (arith, s.requires.1), omega (arith, s.requires.1)),
+      (omega (arith, s.requires.0.0.ones ((s.args.v * 8 + s.args.a) * 8 + c.loop-b.b)), omega (arith, s.requires.1), omega (arith, s.requires.1)),
     )
 
-mul-lower-row : tie.Need-overflow-mul-lower-row invariant-loop decreases-loop
+mul-lower-row : tie.Need-overflow_mul-v-in-loop-b invariant-loop decreases-loop
 mul-lower-row c =
     let s = c.before.before.before.before.before.before.before.before.before.before.before.before.before.before in
     omega (arith, s.requires.1)
 
-add-lower-row : tie.Need-overflow-add-lower-row invariant-loop decreases-loop
+add-lower-row : tie.Need-overflow_add-v-in-loop-b invariant-loop decreases-loop
 add-lower-row c =
     let s = c.before.before.before.before.before.before.before.before.before.before.before.before.before.before in
     omega (arith, s.requires.1)
 
-lower-row-requires : tie.Need-lower-row-requires invariant-loop decreases-loop
+lower-row-requires : tie.Need-lower_row-requires invariant-loop decreases-loop
 lower-row-requires c κs =
     let s = c.before.before.before.before.before.before.before.before.before.before.before.before.before.before in
-    let i = c.before.before.before.before.loop.invariant in (
-      (record { sound = i.1.sound; long = i.1.long ∙ c.before.before.before.before.before.before.before.start-row.ensures.long ∙ s.requires.0.2.long }, s.requires.0.1, c.before.link-weight.ensures.1),
+    let i = c.loop-b.invariant in (
+      (record { sound = i.1.sound; long = i.1.long ∙ c.start_row.ensures.long ∙ s.requires.0.2.long }, s.requires.0.1, c.link_weight-extra.ensures.1),
       (
         omega (arith, s.requires.1),
         omega (arith, s.requires.1),
-        omega (arith, s.requires.1.4, s.requires.0.0.ones ((s.args.v * 8 + s.args.a) * 8 + c.before.before.before.before.loop.b)),
+        omega (arith, s.requires.1.4, s.requires.0.0.ones ((s.args.v * 8 + s.args.a) * 8 + c.loop-b.b)),
         s.requires.1.4.few,
       ),
     )
 
-add-b : tie.Need-overflow-add-b invariant-loop decreases-loop
+add-b : tie.Need-overflow_add-b invariant-loop decreases-loop
 add-b c =
     let s = c.before.before.before.before.before.before.before.before.before.before.before.before.before.before.before.before.before in
     omega (arith, s.requires.1)
 
-loop-less : tie.Need-loop-smaller invariant-loop decreases-loop
+loop-less : tie.Need-loop-b-smaller invariant-loop decreases-loop
 loop-less c = omega arith
 
-loop-again : tie.Need-loop-preserved invariant-loop decreases-loop
+loop-again : tie.Need-loop-b-preserved invariant-loop decreases-loop
 loop-again c =
-    let i = c.before.before.before.before.before.before.before.loop.invariant in (
+    let i = c.loop-b.invariant in (
       omega arith,
-      lowest-next _ _ _ _ _ _ _ _ _ _ _ (λ x l. linked-is _ _ _ _ _ _ _ _ _ c.before.before.before.before.link-weight.ensures.0) i.1 c.before.before.lower-row.ensures,
+      lowest-next _ _ _ _ _ _ _ _ _ _ _ (λ x l. linked-is _ _ _ _ _ _ _ _ _ c.link_weight-extra.ensures.0) i.1 c.lower_row.ensures,
     )
 
-same_length : tie.Need-same-length invariant-loop decreases-loop
-same_length c = c.before.loop.invariant.1.long ∙ c.before.before.before.before.start-row.ensures.long
+same_length : tie.Need-shape_of-room invariant-loop decreases-loop
+same_length c = c.loop-b.invariant.1.long ∙ c.start_row.ensures.long
 
 returns : tie.Need-returns invariant-loop decreases-loop
 returns c =
-    row-then _ _ _ _ _ _ _ c.before.before.before.before.start-row.ensures (lowest-end _ _ _ _ _ _ _ c.before.loop.invariant.0 c.loop-test.false c.before.loop.invariant.1)
+    row-then _ _ _ _ _ _ _ c.start_row.ensures (lowest-end _ _ _ _ _ _ _ c.loop-b.invariant.0 c.loop-b-test.false c.loop-b.invariant.1)
 
-pub reach-row-spec : {M : Type 1} → statement M
-reach-row-spec =
+pub reach_row_spec : {M : Type 1} → statement M
+reach_row_spec =
     tie.close
     (tie.spec
     invariant-loop

@@ -6,18 +6,18 @@ use Rattle.tree_planner.proofs.smaller.Tie as tie
 less-requires : tie.Need-less-requires
 less-requires c κs = (c.requires.1, c.requires.0.words)
 
-returns : tie.Need-returns
+returns : tie.Need-returns-then-less
 returns c =
     let s = c.before.before in
-    smaller-second _ _ _ s.requires.0 s.requires.1 c.before.less.ensures c.if1.true
+    smaller-second _ _ _ s.requires.0 s.requires.1 c.less.ensures c.if-less.true
 
-returns-2 : tie.Need-returns-2
+returns-2 : tie.Need-returns-else-less
 returns-2 c =
     let s = c.before.before in
-    (smaller-first _ _ _ c.before.less.ensures c.if1.false, s.requires.0)
+    (smaller-first _ _ _ c.less.ensures c.if-less.false, s.requires.0)
 
-pub smaller-spec : {M : Type 1} → statement M
-smaller-spec =
+pub smaller_spec : {M : Type 1} → statement M
+smaller_spec =
     tie.close
     (tie.spec
     less-requires

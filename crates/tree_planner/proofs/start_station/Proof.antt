@@ -9,32 +9,32 @@ use borrow.Author.Rules.{rules}
 use Rattle.tree_planner.proofs.start_station.Statement.{statement}
 use Rattle.tree_planner.proofs.start_station.Tie as tie
 
-abbrev invariant-loop : tie.invariant-loop
+abbrev invariant-loop : tie.invariant-loop-b
 invariant-loop sizes cells i count table₀ columns b₀ table b = (b ≤ count) × Rows table₀ table (i * 8) b columns (λ x k. own_at sizes cells i x)
 
-abbrev decreases-loop : tie.decreases-loop
+abbrev decreases-loop : tie.decreases-loop-b
 decreases-loop sizes cells i count table₀ columns b₀ table b = count - b
 
-loop-holds : tie.Need-loop-init invariant-loop decreases-loop
+loop-holds : tie.Need-loop-b-init invariant-loop decreases-loop
 loop-holds c =
     let s = c.before.before in
     (omega arith, rows_start _ _ _ _ s.requires.0.2.sound)
 
-mul-start-row : tie.Need-overflow-mul-start-row invariant-loop decreases-loop
+mul-start-row : tie.Need-overflow_mul-i invariant-loop decreases-loop
 mul-start-row c = search rules
 
-add-start-row : tie.Need-overflow-add-start-row invariant-loop decreases-loop
+add-start-row : tie.Need-overflow_add-i invariant-loop decreases-loop
 add-start-row c = search rules
 
-own-of-requires : tie.Need-own-of-requires invariant-loop decreases-loop
+own-of-requires : tie.Need-own_of-requires invariant-loop decreases-loop
 own-of-requires c κs =
     let s = c.before.before.before.before.before in
     (s.requires.0.0, s.requires.0.1, s.requires.1.0, omega (arith, s.requires.1))
 
-start-row-requires : tie.Need-start-row-requires invariant-loop decreases-loop
+start-row-requires : tie.Need-start_row-requires invariant-loop decreases-loop
 start-row-requires c κs =
     let s = c.before.before.before.before.before.before in
-    let i = c.before.before.before.loop.invariant in (
+    let i = c.loop-b.invariant in (
       i.1.sound,
       omega (arith, s.requires.1),
       omega (arith, i.1.long, s.requires.1, s.requires.0.2.long),
@@ -42,28 +42,28 @@ start-row-requires c κs =
       s.requires.1.2,
     )
 
-add-b : tie.Need-overflow-add-b invariant-loop decreases-loop
+add-b : tie.Need-overflow_add-b invariant-loop decreases-loop
 add-b c =
     let s = c.before.before.before.before.before.before.before.before.before in
     omega (arith, s.requires.1)
 
-loop-less : tie.Need-loop-smaller invariant-loop decreases-loop
+loop-less : tie.Need-loop-b-smaller invariant-loop decreases-loop
 loop-less c = omega arith
 
-loop-again : tie.Need-loop-preserved invariant-loop decreases-loop
+loop-again : tie.Need-loop-b-preserved invariant-loop decreases-loop
 loop-again c =
     let s = c.before.before.before.before.before.before.before.before.before in
-    let i = c.before.before.before.before.before.before.loop.invariant in
-    (omega arith, rows_next _ _ _ _ _ _ _ _ _ s.requires.1.2 refl (λ x l. c.before.before.before.own_of_lem.ensures.0) i.1 c.before.before.start-row.ensures)
+    let i = c.loop-b.invariant in
+    (omega arith, rows_next _ _ _ _ _ _ _ _ _ s.requires.1.2 refl (λ x l. c.own_of_lem.ensures.0) i.1 c.start_row.ensures)
 
-same_length : tie.Need-same-length invariant-loop decreases-loop
-same_length c = c.before.loop.invariant.1.long
+same_length : tie.Need-shape_of-table invariant-loop decreases-loop
+same_length c = c.loop-b.invariant.1.long
 
 returns : tie.Need-returns invariant-loop decreases-loop
-returns c = rows_end _ _ _ _ _ _ _ c.before.loop.invariant.0 c.loop-test.false c.before.loop.invariant.1
+returns c = rows_end _ _ _ _ _ _ _ c.loop-b.invariant.0 c.loop-b-test.false c.loop-b.invariant.1
 
-pub start-station-spec : {M : Type 1} → statement M
-start-station-spec =
+pub start_station_spec : {M : Type 1} → statement M
+start_station_spec =
     tie.close
     (tie.spec
     invariant-loop

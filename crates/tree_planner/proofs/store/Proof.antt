@@ -6,52 +6,52 @@ use borrow.Author.Rules.{rules}
 use Rattle.tree_planner.proofs.store.Statement.{statement}
 use Rattle.tree_planner.proofs.store.Tie as tie
 
-mul-table : tie.Need-overflow-mul-table
+mul-table : tie.Need-overflow_mul-table
 mul-table c = search rules
 
-mul-table-2 : tie.Need-overflow-mul-table-2
+mul-table-2 : tie.Need-offset_bounds-table-at
 mul-table-2 c = search rules
 
-slice-write-table : tie.Need-slice-write-table
+slice-write-table : tie.Need-bounds-table-at
 slice-write-table c = search rules
 
-mul-table-3 : tie.Need-overflow-mul-table-3
+mul-table-3 : tie.Need-overflow_mul-table-2
 mul-table-3 c = search rules
 
-add-table : tie.Need-overflow-add-table
+add-table : tie.Need-overflow_add-table
 add-table c = search rules
 
-mul-table-4 : tie.Need-overflow-mul-table-4
+mul-table-4 : tie.Need-offset_bounds-table-at-2
 mul-table-4 c = search rules
 
-slice-write-table-2 : tie.Need-slice-write-table-2
+slice-write-table-2 : tie.Need-bounds-table-at-2
 slice-write-table-2 c = simp length-set (omega arith)
 
-mul-table-5 : tie.Need-overflow-mul-table-5
+mul-table-5 : tie.Need-overflow_mul-table-3
 mul-table-5 c = search rules
 
-add-table-2 : tie.Need-overflow-add-table-2
+add-table-2 : tie.Need-overflow_add-table-2
 add-table-2 c = search rules
 
-mul-table-6 : tie.Need-overflow-mul-table-6
+mul-table-6 : tie.Need-offset_bounds-table-at-3
 mul-table-6 c = search rules
 
-slice-write-table-3 : tie.Need-slice-write-table-3
+slice-write-table-3 : tie.Need-bounds-table-at-3
 slice-write-table-3 c = simp length-set (omega arith)
 
-mul-table-7 : tie.Need-overflow-mul-table-7
+mul-table-7 : tie.Need-overflow_mul-table-4
 mul-table-7 c = search rules
 
-add-table-3 : tie.Need-overflow-add-table-3
+add-table-3 : tie.Need-overflow_add-table-3
 add-table-3 c = search rules
 
-mul-table-8 : tie.Need-overflow-mul-table-8
+mul-table-8 : tie.Need-offset_bounds-table-at-4
 mul-table-8 c = search rules
 
-slice-write-table-4 : tie.Need-slice-write-table-4
+slice-write-table-4 : tie.Need-bounds-table-at-4
 slice-write-table-4 c = simp length-set (omega arith)
 
-same_length : tie.Need-same-length
+same_length : tie.Need-shape_of-table
 same_length c = search rules
 
 returns : tie.Need-returns

@@ -14,14 +14,14 @@ not-nan nan h = subst T (sym h) tt
 not-nan (inf s) h = tt
 not-nan (fin s m e) h = tt
 
-float-to-bits-result : tie.Need-float-to-bits-result
-float-to-bits-result c = not-nan _ c.if1.true
+float-to-bits-result : tie.Need-float_to_bits-result
+float-to-bits-result c = not-nan _ c.if-x.true
 
-returns : tie.Need-returns
+returns : tie.Need-returns-then-x
 returns c = tt
 
-returns-2 : tie.Need-returns-2
+returns-2 : tie.Need-returns-else-x
 returns-2 c = tt
 
-pub bits-spec : {M : Type 1} → statement M
-bits-spec = tie.close (tie.spec float-to-bits-result returns returns-2)
+pub bits_spec : {M : Type 1} → statement M
+bits_spec = tie.close (tie.spec float-to-bits-result returns returns-2)

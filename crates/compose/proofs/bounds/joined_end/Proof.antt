@@ -8,32 +8,32 @@ use Rattle.compose.proofs.bounds.joined_end.Tie as tie
 use Rattle.compose.proofs.bounds.joined_end.Reads as reads
 use Rattle.compose.proofs.bounds.joined_end.Lts as lts
 
-add-if1 : tie.Need-overflow-add-if1
+add-if1 : tie.Need-overflow_add-first
 add-if1 c = search rules
 
-mul-result : tie.Need-overflow-mul-result
+mul-result : tie.Need-offset_bounds-fs-place
 mul-result c = search rules
 
-shared-slice-copy-out-result : tie.Need-shared-slice-copy-out-result
+shared-slice-copy-out-result : tie.Need-bounds-fs-place
 shared-slice-copy-out-result c = search rules
 
-returns : tie.Need-returns
-returns c = rw (to_z-of_z (sfits_of c.result.given), lt-ltb _ _ c.before.if1.true) refl
+returns : tie.Need-returns-then-place-first
+returns c = rw (to_z-of_z (sfits_of c.result-1.given), lt-ltb _ _ c.if-place-first.true) refl
 
-sub-i : tie.Need-overflow-sub-i
+sub-i : tie.Need-overflow_sub-i
 sub-i c = search rules
 
-mul-result-2 : tie.Need-overflow-mul-result-2
+mul-result-2 : tie.Need-offset_bounds-gs-i
 mul-result-2 c = search rules
 
-shared-slice-copy-out-result-2 : tie.Need-shared-slice-copy-out-result-2
+shared-slice-copy-out-result-2 : tie.Need-bounds-gs-i
 shared-slice-copy-out-result-2 c = search rules
 
-returns-2 : tie.Need-returns-2
-returns-2 c = rw (to_z-of_z (sfits_of c.result2.given), le-ltb _ _ c.before.if1.false) refl
+returns-2 : tie.Need-returns
+returns-2 c = rw (to_z-of_z (sfits_of c.result-2-1.given), le-ltb _ _ c.if-place-first.false) refl
 
-pub joined-end-spec : {M : Type 1} → statement M
-joined-end-spec =
+pub joined_end_spec : {M : Type 1} → statement M
+joined_end_spec =
     tie.close
     (tie.spec
     add-if1

@@ -16,41 +16,41 @@ use Rattle.compose.proofs.nodes.copy_nodes.Lts as lts
 use Rattle.encoding.proofs.write_node.Reads as write-node-reads
 use Rattle.expression.proofs.node_of.Reads as node-of-reads
 
-abbrev invariant-loop : tie.invariant-loop
+abbrev invariant-loop : tie.invariant-loop-j
 invariant-loop source held dims ranges from count kinds₀ values₀ at place₀ j₀ kinds values place j =
     Written (nodes_at dims ranges source held from j) kinds₀ kinds values₀ values at place × (j ≤ count)
 
-abbrev decreases-loop : tie.decreases-loop
+abbrev decreases-loop : tie.decreases-loop-j
 decreases-loop source held dims ranges from count kinds₀ values₀ at place₀ j₀ kinds values place j = count - j
 
-loop-holds : tie.Need-loop-init invariant-loop decreases-loop
+loop-holds : tie.Need-loop-j-init invariant-loop decreases-loop
 loop-holds c = let s = c.before.before in (copied_none _ _ _ _ _ s.requires.1, omega arith)
 
-add-i : tie.Need-overflow-add-i invariant-loop decreases-loop
+add-i : tie.Need-overflow_add-i invariant-loop decreases-loop
 add-i c = record { fits = omega arith }
 
-shared-slice-read-node-of : tie.Need-shared-slice-read-node-of invariant-loop decreases-loop
+shared-slice-read-node-of : tie.Need-bounds-source-i invariant-loop decreases-loop
 shared-slice-read-node-of c = omega arith
 
-mul-node-of : tie.Need-overflow-mul-node-of invariant-loop decreases-loop
+mul-node-of : tie.Need-offset_bounds-held-i invariant-loop decreases-loop
 mul-node-of c = record { fits = omega arith }
 
-shared-slice-copy-out-node-of : tie.Need-shared-slice-copy-out-node-of invariant-loop decreases-loop
+shared-slice-copy-out-node-of : tie.Need-bounds-held-i invariant-loop decreases-loop
 shared-slice-copy-out-node-of c = omega arith
 
-node-of-requires : tie.Need-node-of-requires invariant-loop decreases-loop
+node-of-requires : tie.Need-node_of-node-requires invariant-loop decreases-loop
 node-of-requires c κs = search rules
 
-put-requires : tie.Need-write-node-requires invariant-loop decreases-loop
+put-requires : tie.Need-write_node-place-requires invariant-loop decreases-loop
 put-requires c κs = search rules
 
-add-j : tie.Need-overflow-add-j invariant-loop decreases-loop
+add-j : tie.Need-overflow_add-j invariant-loop decreases-loop
 add-j c = search rules
 
-loop-less : tie.Need-loop-smaller invariant-loop decreases-loop
+loop-less : tie.Need-loop-j-smaller invariant-loop decreases-loop
 loop-less c = search rules
 
-loop-again : tie.Need-loop-preserved invariant-loop decreases-loop
+loop-again : tie.Need-loop-j-preserved invariant-loop decreases-loop
 loop-again c =
     let p = c.before.before.before in
     let n = p.before.before.before in
@@ -58,24 +58,24 @@ loop-again c =
     let l = t.before in
     let s = l.before.before.before in
     let a = s.args in
-    let e = rw (to_z-of_z (sfits_of n.before.node-of-arg.given)) at n.node_of.ensures in
-    (rw add-one (copied_next a.dims a.ranges a.source.now a.held.now s.requires.1 a.from l.loop.j l.loop.invariant.0 (rw e at p.write-node.ensures)), omega (arith, t.loop-test.true))
+    let e = rw (to_z-of_z (sfits_of n.node_of-arg-1.given)) at n.node_of-node.ensures in
+    (rw add-one (copied_next a.dims a.ranges a.source.now a.held.now s.requires.1 a.from l.loop-j.j l.loop-j.invariant.0 (rw e at p.write_node-place.ensures)), omega (arith, t.loop-j-test.true))
 
-same_length : tie.Need-same-length invariant-loop decreases-loop
-same_length c = let l = c.before in let s = l.before.before.before in (kept s.requires.1 l.loop.invariant.0).kinds
+same_length : tie.Need-shape_of-kinds invariant-loop decreases-loop
+same_length c = let l = c.before in let s = l.before.before.before in (kept s.requires.1 l.loop-j.invariant.0).kinds
 
-same-length-2 : tie.Need-same-length-2 invariant-loop decreases-loop
-same-length-2 c = let l = c.before in let s = l.before.before.before in (kept s.requires.1 l.loop.invariant.0).values
+same-length-2 : tie.Need-shape_of-values invariant-loop decreases-loop
+same-length-2 c = let l = c.before in let s = l.before.before.before in (kept s.requires.1 l.loop-j.invariant.0).values
 
 returns : tie.Need-returns invariant-loop decreases-loop
 returns c =
     let l = c.before in
     let s = l.before.before.before in
-    let e : l.loop.j ≡ s.args.count = omega (arith, c.loop-test.false, l.loop.invariant.1) in
-    rw e at l.loop.invariant.0
+    let e : l.loop-j.j ≡ s.args.count = omega (arith, c.loop-j-test.false, l.loop-j.invariant.1) in
+    rw e at l.loop-j.invariant.0
 
-pub copy-nodes-spec : {M : Type 1} → statement M
-copy-nodes-spec =
+pub copy_nodes_spec : {M : Type 1} → statement M
+copy_nodes_spec =
     tie.close
     (tie.spec
     invariant-loop

@@ -27,87 +27,87 @@ use Rattle.compose.proofs.nodes.splice_run.Reads as splice-run-reads
 abbrev tree_of : IndexingMap → IndexingMap → ℕ → Expr
 tree_of f g i = put_into f (expr_at g i)
 
-abbrev invariant-loop : tie.invariant-loop
+abbrev invariant-loop : tie.invariant-loop-i
 invariant-loop f g counts₀ kinds₀ values₀ results at₀ i₀ counts kinds values at i =
     Gathers [] (listed (tree_of f g) i) max_results counts kinds values at × (i ≤ g.results) × (length counts ≡ length counts₀)
     × (length kinds ≡ length kinds₀) × (length values ≡ length values₀)
 
-abbrev decreases-loop : tie.decreases-loop
+abbrev decreases-loop : tie.decreases-loop-i
 decreases-loop f g counts₀ kinds₀ values₀ results at₀ i₀ counts kinds values at i = results - i
 
 few : (s : tie.Start invariant-loop decreases-loop) → Counts s.args.g
 few s = counts s.args.g s.requires.0.both.after
 
-loop-holds : tie.Need-loop-init invariant-loop decreases-loop
+loop-holds : tie.Need-loop-i-init invariant-loop decreases-loop
 loop-holds c =
     let s = c.before.before in
     (gathers-start (tree_of s.args.f s.args.g) s.requires.1, omega arith, refl, refl, refl)
 
-splice-run-requires : tie.Need-splice-run-requires invariant-loop decreases-loop
+splice-run-requires : tie.Need-splice_run-end-requires invariant-loop decreases-loop
 splice-run-requires c κs =
     let t = c.before.before in
     let l = c.before.before.before in
     let s = c.before.before.before.before.before.before in
-    (s.requires.0, result-run s.args.g s.requires.0.both.after l.loop.i t.loop-test.true, holds-room l.loop.invariant.0.holds)
+    (s.requires.0, result-run s.args.g s.requires.0.both.after l.loop-i.i t.loop-i-test.true, holds-room l.loop-i.invariant.0.holds)
 
-sub-counts : tie.Need-overflow-sub-counts invariant-loop decreases-loop
+sub-counts : tie.Need-overflow_sub-counts invariant-loop decreases-loop
 sub-counts c =
     let r = c.before.before.before in
     let l = c.before.before.before.before.before.before.before in
     let s = c.before.before.before.before.before.before.before.before.before.before in
-    place-next [] (tree_of s.args.f s.args.g) max_results l.loop.i l.loop.invariant.0 r.splice-run.ensures
+    place-next [] (tree_of s.args.f s.args.g) max_results l.loop-i.i l.loop-i.invariant.0 r.splice_run-end.ensures
 
-mul-counts : tie.Need-overflow-mul-counts invariant-loop decreases-loop
+mul-counts : tie.Need-offset_bounds-counts-i invariant-loop decreases-loop
 mul-counts c =
     let t = c.before.before.before.before.before.before in
     let s = c.before.before.before.before.before.before.before.before.before.before in
-    record { fits = omega (arith, (few s).results, t.loop-test.true) }
+    record { fits = omega (arith, (few s).results, t.loop-i-test.true) }
 
-slice-write-counts : tie.Need-slice-write-counts invariant-loop decreases-loop
+slice-write-counts : tie.Need-bounds-counts-i invariant-loop decreases-loop
 slice-write-counts c =
     let t = c.before.before.before.before.before.before in
     let l = c.before.before.before.before.before.before.before in
     let s = c.before.before.before.before.before.before.before.before.before.before in
-    omega (arith, (few s).results, t.loop-test.true, l.loop.invariant.2, ap length s.requires.1.Counts-zero)
+    omega (arith, (few s).results, t.loop-i-test.true, l.loop-i.invariant.2, ap length s.requires.1.Counts-zero)
 
-add-i : tie.Need-overflow-add-i invariant-loop decreases-loop
+add-i : tie.Need-overflow_add-i invariant-loop decreases-loop
 add-i c = search rules
 
-loop-less : tie.Need-loop-smaller invariant-loop decreases-loop
+loop-less : tie.Need-loop-i-smaller invariant-loop decreases-loop
 loop-less c = search rules
 
-loop-again : tie.Need-loop-preserved invariant-loop decreases-loop
+loop-again : tie.Need-loop-i-preserved invariant-loop decreases-loop
 loop-again c =
     let r = c.before.before.before in
     let t = c.before.before.before.before.before.before in
     let l = c.before.before.before.before.before.before.before in
     let s = c.before.before.before.before.before.before.before.before.before.before in
-    let o = holds-room l.loop.invariant.0.holds in (
-      rw add-one (gathers-next [] (tree_of s.args.f s.args.g) max_results l.loop.i l.loop.invariant.0 r.splice-run.ensures),
-      omega (arith, t.loop-test.true),
-      length-set l.loop.counts l.loop.i _ ∙ l.loop.invariant.2,
-      (kept o r.splice-run.ensures).kinds ∙ l.loop.invariant.3,
-      (kept o r.splice-run.ensures).values ∙ l.loop.invariant.4,
+    let o = holds-room l.loop-i.invariant.0.holds in (
+      rw add-one (gathers-next [] (tree_of s.args.f s.args.g) max_results l.loop-i.i l.loop-i.invariant.0 r.splice_run-end.ensures),
+      omega (arith, t.loop-i-test.true),
+      length-set l.loop-i.counts l.loop-i.i _ ∙ l.loop-i.invariant.2,
+      (kept o r.splice_run-end.ensures).kinds ∙ l.loop-i.invariant.3,
+      (kept o r.splice_run-end.ensures).values ∙ l.loop-i.invariant.4,
     )
 
-same_length : tie.Need-same-length invariant-loop decreases-loop
-same_length c = c.before.loop.invariant.2
+same_length : tie.Need-shape_of-counts invariant-loop decreases-loop
+same_length c = c.loop-i.invariant.2
 
-same-length-2 : tie.Need-same-length-2 invariant-loop decreases-loop
-same-length-2 c = c.before.loop.invariant.3
+same-length-2 : tie.Need-shape_of-kinds invariant-loop decreases-loop
+same-length-2 c = c.loop-i.invariant.3
 
-same-length-3 : tie.Need-same-length-3 invariant-loop decreases-loop
-same-length-3 c = c.before.loop.invariant.4
+same-length-3 : tie.Need-shape_of-values invariant-loop decreases-loop
+same-length-3 c = c.loop-i.invariant.4
 
 returns : tie.Need-returns invariant-loop decreases-loop
 returns c =
     let l = c.before in
     let s = c.before.before.before.before in
-    let e : l.loop.i ≡ s.args.g.results = omega (arith, c.loop-test.false, l.loop.invariant.1) in
-    gathers-as (ap (listed (tree_of s.args.f s.args.g)) e ∙ results-listed s.args.f s.args.g s.requires.0) l.loop.invariant.0
+    let e : l.loop-i.i ≡ s.args.g.results = omega (arith, c.loop-i-test.false, l.loop-i.invariant.1) in
+    gathers-as (ap (listed (tree_of s.args.f s.args.g)) e ∙ results-listed s.args.f s.args.g s.requires.0) l.loop-i.invariant.0
 
-pub compose-results-spec : {M : Type 1} → statement M
-compose-results-spec =
+pub compose_results_spec : {M : Type 1} → statement M
+compose_results_spec =
     tie.close
     (tie.spec
     invariant-loop

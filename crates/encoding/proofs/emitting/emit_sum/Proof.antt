@@ -7,19 +7,19 @@ use Rattle.encoding.proofs.emitting.emit_sum.Reads as reads
 use Rattle.encoding.proofs.emitting.emit_sum.Lts as lts
 use Rattle.encoding.proofs.emitting.emit_terms.Reads as emit-terms-reads
 
-emit-terms-requires : tie.Need-emit-terms-requires
+emit-terms-requires : tie.Need-emit_terms-requires
 emit-terms-requires c κs = search rules
 
-same_length : tie.Need-same-length
+same_length : tie.Need-shape_of-kinds
 same_length c = search rules
 
-same-length-2 : tie.Need-same-length-2
+same-length-2 : tie.Need-shape_of-values
 same-length-2 c = search rules
 
 returns : tie.Need-returns
 returns c =
     let k = c.before.before.before in
-    of-sum k.before.before.before.before.args.w.now _ _ k.emit-terms.ensures
+    of-sum k.args.w.now _ _ k.emit_terms.ensures
 
-pub emit-sum-spec : {M : Type 1} → statement M
-emit-sum-spec = tie.close (tie.spec emit-terms-requires same_length same-length-2 returns)
+pub emit_sum_spec : {M : Type 1} → statement M
+emit_sum_spec = tie.close (tie.spec emit-terms-requires same_length same-length-2 returns)

@@ -11,17 +11,17 @@ use Rattle.encoding.proofs.nodes.place_from.Tie as tie
 use Rattle.encoding.proofs.nodes.place_from.Reads as reads
 use Rattle.encoding.proofs.nodes.place_from.Lts as lts
 
-add-result : tie.Need-overflow-add-result
+add-result : tie.Need-overflow_add-result
 add-result c = search rules
 
-cast-result : tie.Need-overflow-cast-result
+cast-result : tie.Need-overflow_cast-result
 cast-result c = search rules
 
-returns : tie.Need-returns
-returns c = let s = c.before in to_z_pos w64 (omega (arith, s.requires, c.if1.true)) ∙ ap pos (sym (place_in s.args.start s.args.n c.if1.true))
+returns : tie.Need-returns-then-n-lt-MAX_VARIABLES
+returns c = let s = c.before in to_z_pos w64 (omega (arith, s.requires, c.if-n-lt-MAX_VARIABLES.true)) ∙ ap pos (sym (place_in s.args.start s.args.n c.if-n-lt-MAX_VARIABLES.true))
 
-returns-2 : tie.Need-returns-2
-returns-2 c = let s = c.before in ap pos (sym (place_out s.args.start s.args.n c.if1.false))
+returns-2 : tie.Need-returns
+returns-2 c = let s = c.before in ap pos (sym (place_out s.args.start s.args.n c.if-n-lt-MAX_VARIABLES.false))
 
-pub place-from-spec : {M : Type 1} → statement M
-place-from-spec = tie.close (tie.spec add-result cast-result returns returns-2)
+pub place_from_spec : {M : Type 1} → statement M
+place_from_spec = tie.close (tie.spec add-result cast-result returns returns-2)

@@ -10,19 +10,19 @@ use Rattle.encoding.proofs.nodes.kind_of.Reads as kind-of-reads
 use Rattle.encoding.proofs.nodes.value_of.Reads as value-of-reads
 use Rattle.encoding.proofs.writing.put_node.Reads as put-node-reads
 
-kind-of-requires : tie.Need-kind-of-requires
+kind-of-requires : tie.Need-kind_of-requires
 kind-of-requires c κs = search rules
 
-value-of-requires : tie.Need-value-of-requires
+value-of-requires : tie.Need-value_of-requires
 value-of-requires c κs = search rules
 
-put-node-requires : tie.Need-put-node-requires
+put-node-requires : tie.Need-put_node-requires
 put-node-requires c κs = search rules
 
-same_length : tie.Need-same-length
+same_length : tie.Need-shape_of-kinds
 same_length c = search rules
 
-same-length-2 : tie.Need-same-length-2
+same-length-2 : tie.Need-shape_of-values
 same-length-2 c = search rules
 
 returns : tie.Need-returns
@@ -31,10 +31,10 @@ returns c =
     let v = p.before in
     let k = v.before in
     let s = k.before.before.before.before in
-    one s.args.node (rw (to_z-of_z (sfits_of v.value_of.type-inv), v.value_of.ensures, k.kind-of.ensures) at p.put-node.ensures)
+    one s.args.node (rw (to_z-of_z (sfits_of v.value_of.type_inv), v.value_of.ensures, k.kind_of.ensures) at p.put_node.ensures)
 
-pub write-node-spec : {M : Type 1} → statement M
-write-node-spec =
+pub write_node_spec : {M : Type 1} → statement M
+write_node_spec =
     tie.close
     (tie.spec
     kind-of-requires

@@ -16,50 +16,50 @@ use Rattle.encoding.proofs.records.kept_bounds.Reads as reads
 use Rattle.encoding.proofs.records.kept_bounds.Lts as lts
 use Rattle.encoding.proofs.records.bound_at.Reads as bound-at-reads
 
-abbrev invariant-loop : tie.invariant-loop
+abbrev invariant-loop : tie.invariant-loop-i
 invariant-loop bounds dims ranges out₀ i₀ out i =
     (i ≤ max_places) × (length out ≡ max_places) × ((k : ℕ) → k < i → get_or out k (pos 0) ≡ get_or (bounds_of dims ranges bounds) k (pos 0))
 
-abbrev decreases-loop : tie.decreases-loop
+abbrev decreases-loop : tie.decreases-loop-i
 decreases-loop bounds dims ranges out₀ i₀ out i = max_places - i
 
-loop-holds : tie.Need-loop-init invariant-loop decreases-loop
+loop-holds : tie.Need-loop-i-init invariant-loop decreases-loop
 loop-holds c = (omega arith, refl, λ k h. absurd (omega arith))
 
-bound-at-requires : tie.Need-bound-at-requires invariant-loop decreases-loop
-bound-at-requires c κs = (c.before.before.requires, c.loop-test.true)
+bound-at-requires : tie.Need-bound_at-requires invariant-loop decreases-loop
+bound-at-requires c κs = (c.requires, c.loop-i-test.true)
 
-mul-out : tie.Need-overflow-mul-out invariant-loop decreases-loop
+mul-out : tie.Need-offset_bounds-out-i invariant-loop decreases-loop
 mul-out c = search rules
 
-array-set-from-out : tie.Need-array-set-from-out invariant-loop decreases-loop
+array-set-from-out : tie.Need-bounds-out-i invariant-loop decreases-loop
 array-set-from-out c = search rules
 
-add-i : tie.Need-overflow-add-i invariant-loop decreases-loop
+add-i : tie.Need-overflow_add-i invariant-loop decreases-loop
 add-i c = search rules
 
-loop-less : tie.Need-loop-smaller invariant-loop decreases-loop
+loop-less : tie.Need-loop-i-smaller invariant-loop decreases-loop
 loop-less c = search rules
 
-loop-again : tie.Need-loop-preserved invariant-loop decreases-loop
+loop-again : tie.Need-loop-i-preserved invariant-loop decreases-loop
 loop-again c =
     let t = c.before in
     let l = t.before in
     let s = l.before in
-    rw (to_z-of_z (sfits_of c.bound_at.type-inv)) (
-      omega (arith, t.loop-test.true),
-      length-set l.loop.out l.loop.i c.bound_at.result ∙ l.loop.invariant.1,
-      entry_next (λ (k : ℕ). get_or (bounds_of s.args.dims s.args.ranges s.args.bounds.now) k (pos 0)) l.loop.out c.bound_at.result (pos 0) l.loop.i max_places l.loop.invariant.1 t.loop-test.true l.loop.invariant.2 c.bound_at.ensures,
+    rw (to_z-of_z (sfits_of c.bound_at.type_inv)) (
+      omega (arith, t.loop-i-test.true),
+      length-set l.loop-i.out l.loop-i.i c.bound_at.result ∙ l.loop-i.invariant.1,
+      entry_next (λ (k : ℕ). get_or (bounds_of s.args.dims s.args.ranges s.args.bounds.now) k (pos 0)) l.loop-i.out c.bound_at.result (pos 0) l.loop-i.i max_places l.loop-i.invariant.1 t.loop-i-test.true l.loop-i.invariant.2 c.bound_at.ensures,
     )
 
 returns : tie.Need-returns invariant-loop decreases-loop
 returns c =
     let l = c.before in
     let s = l.before in
-    bounds-all s.args.dims s.args.ranges s.args.bounds.now l.loop.out l.loop.invariant.1 (λ k h. l.loop.invariant.2 k (omega (arith, c.loop-test.false, h)))
+    bounds-all s.args.dims s.args.ranges s.args.bounds.now l.loop-i.out l.loop-i.invariant.1 (λ k h. l.loop-i.invariant.2 k (omega (arith, c.loop-i-test.false, h)))
 
-pub kept-bounds-spec : {M : Type 1} → statement M
-kept-bounds-spec =
+pub kept_bounds_spec : {M : Type 1} → statement M
+kept_bounds_spec =
     tie.close
     (tie.spec
     invariant-loop

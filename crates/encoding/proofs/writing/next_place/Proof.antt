@@ -5,14 +5,14 @@ use Rattle.encoding.proofs.writing.next_place.Tie as tie
 use Rattle.encoding.proofs.writing.next_place.Reads as reads
 use Rattle.encoding.proofs.writing.next_place.Lts as lts
 
-add-result : tie.Need-overflow-add-result
+add-result : tie.Need-overflow_add-result
 add-result c = omega arith
 
-returns : tie.Need-returns
+returns : tie.Need-returns-then-at-lt-COUNTED
 returns c = omega arith
 
-returns-2 : tie.Need-returns-2
+returns-2 : tie.Need-returns-else-at-lt-COUNTED
 returns-2 c = omega arith
 
-pub next-place-spec : {M : Type 1} → statement M
-next-place-spec = tie.close (tie.spec add-result returns returns-2)
+pub next_place_spec : {M : Type 1} → statement M
+next_place_spec = tie.close (tie.spec add-result returns returns-2)

@@ -5,11 +5,11 @@ use Rattle.encoding.proofs.writing.op_kind.Tie as tie
 use Rattle.encoding.proofs.writing.op_kind.Reads as reads
 use Rattle.encoding.proofs.writing.op_kind.Lts as lts
 
-returns : tie.Need-returns
-returns c = of-floordiv _ c.if1.true
+returns : tie.Need-returns-then-op-eq3
+returns c = of-floordiv _ c.if-op-eq3.true
 
-returns-2 : tie.Need-returns-2
-returns-2 c = of-mod _ c.if1.false
+returns-2 : tie.Need-returns-else-op-eq3
+returns-2 c = of-mod _ c.if-op-eq3.false
 
-pub op-kind-spec : {M : Type 1} → statement M
-op-kind-spec = tie.close (tie.spec returns returns-2)
+pub op_kind_spec : {M : Type 1} → statement M
+op_kind_spec = tie.close (tie.spec returns returns-2)

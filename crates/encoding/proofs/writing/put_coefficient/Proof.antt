@@ -9,39 +9,39 @@ use Rattle.encoding.proofs.writing.put_coefficient.Lts as lts
 use Rattle.encoding.proofs.writing.put_factor.Reads as put-factor-reads
 use Rattle.encoding.proofs.writing.put_node.Reads as put-node-reads
 
-put-factor-requires : tie.Need-put-factor-requires
+put-factor-requires : tie.Need-put_factor-end-requires
 put-factor-requires c κs = search rules
 
-same_length : tie.Need-same-length
+same_length : tie.Need-shape_of-kinds-then-alone
 same_length c = search rules
 
-same-length-2 : tie.Need-same-length-2
+same-length-2 : tie.Need-shape_of-values-then-alone
 same-length-2 c = search rules
 
-returns : tie.Need-returns
+returns : tie.Need-returns-then-alone
 returns c =
     let k = c.before.before.before.before in
     let s = c.before.before.before.before.before.before.before.before in
-    coefficient-alone _ s.args.coefficient c.if1.true (rw (to_z-of_z s.ranges.coefficient) at k.put-factor.ensures)
+    coefficient-alone _ s.args.coefficient c.if-alone.true (rw (to_z-of_z s.ranges.coefficient) at k.put_factor-end.ensures)
 
-put-node-requires : tie.Need-put-node-requires
+put-node-requires : tie.Need-put_node-requires
 put-node-requires c κs = search rules
 
-same-length-3 : tie.Need-same-length-3
+same-length-3 : tie.Need-shape_of-kinds
 same-length-3 c = search rules
 
-same-length-4 : tie.Need-same-length-4
+same-length-4 : tie.Need-shape_of-values
 same-length-4 c = search rules
 
-returns-2 : tie.Need-returns-2
+returns-2 : tie.Need-returns
 returns-2 c =
     let x = c.before.before.before.before.before.before in
     let k = c.before.before.before.before.before.before.before.before.before.before in
     let s = c.before.before.before.before.before.before.before.before.before.before.before.before.before.before in
-    coefficient-joined _ s.args.coefficient x.if1.false s.requires (rw (to_z-of_z s.ranges.coefficient) at k.put-factor.ensures) c.before.before.before.put-node.ensures
+    coefficient-joined _ s.args.coefficient x.if-alone.false s.requires (rw (to_z-of_z s.ranges.coefficient) at k.put_factor-end.ensures) c.put_node.ensures
 
-pub put-coefficient-spec : {M : Type 1} → statement M
-put-coefficient-spec =
+pub put_coefficient_spec : {M : Type 1} → statement M
+put_coefficient_spec =
     tie.close
     (tie.spec
     put-factor-requires

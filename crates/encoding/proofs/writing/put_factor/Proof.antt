@@ -13,30 +13,30 @@ use Rattle.encoding.proofs.writing.put_factor.Reads as reads
 use Rattle.encoding.proofs.writing.put_factor.Lts as lts
 use Rattle.encoding.proofs.writing.put_node.Reads as put-node-reads
 
-returns : tie.Need-returns
+returns : tie.Need-returns-then-factor-eq1
 returns c =
     let s = c.before.before in
-    let e = sym (to_z-of_z s.ranges.factor) ∙ ap (to_z w64) c.if1.true in
+    let e = sym (to_z-of_z s.ranges.factor) ∙ ap (to_z w64) c.if-factor-eq1.true in
     rw (factor-one s.args.factor e) (nothing _ _ _ s.requires.most)
 
-put-node-requires : tie.Need-put-node-requires
+put-node-requires : tie.Need-put_node-requires
 put-node-requires c κs = search rules
 
-same_length : tie.Need-same-length
+same_length : tie.Need-shape_of-kinds
 same_length c = search rules
 
-same-length-2 : tie.Need-same-length-2
+same-length-2 : tie.Need-shape_of-values
 same-length-2 c = search rules
 
-returns-2 : tie.Need-returns-2
+returns-2 : tie.Need-returns
 returns-2 c =
     let k = c.before.before.before in
     let x = c.before.before.before.before.before.before in
     let s = x.before.before in
     let z = to_z-of_z s.ranges.factor in
-    rw (factor-other s.args.factor (λ e. x.if1.false (ap (of_z w64) e)))
-    (one (N.One (Product s.args.factor)) (rw z at k.put-node.ensures))
+    rw (factor-other s.args.factor (λ e. x.if-factor-eq1.false (ap (of_z w64) e)))
+    (one (N.One (Product s.args.factor)) (rw z at k.put_node.ensures))
 
-pub put-factor-spec : {M : Type 1} → statement M
-put-factor-spec =
+pub put_factor_spec : {M : Type 1} → statement M
+put_factor_spec =
     tie.close (tie.spec returns put-node-requires same_length same-length-2 returns-2)

@@ -7,17 +7,17 @@ use Rattle.encoding.proofs.writing.put_kind.Tie as tie
 use Rattle.encoding.proofs.writing.put_kind.Reads as reads
 use Rattle.encoding.proofs.writing.put_kind.Lts as lts
 
-slice-write-kinds : tie.Need-slice-write-kinds
+slice-write-kinds : tie.Need-bounds-kinds-at
 slice-write-kinds c = search rules
 
-same_length : tie.Need-same-length
+same_length : tie.Need-shape_of-kinds
 same_length c = search rules
 
-returns : tie.Need-returns
+returns : tie.Need-returns-then-at-kinds
 returns c = search rules
 
-returns-2 : tie.Need-returns-2
-returns-2 c = sym (set_out c.before.args.kinds.now c.before.args.at _ c.if1.false)
+returns-2 : tie.Need-returns-else-at-kinds
+returns-2 c = sym (set_out c.args.kinds.now c.args.at _ c.if-at-kinds.false)
 
-pub put-kind-spec : {M : Type 1} → statement M
-put-kind-spec = tie.close (tie.spec slice-write-kinds same_length returns returns-2)
+pub put_kind_spec : {M : Type 1} → statement M
+put_kind_spec = tie.close (tie.spec slice-write-kinds same_length returns returns-2)

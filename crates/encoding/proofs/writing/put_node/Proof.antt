@@ -9,19 +9,19 @@ use Rattle.encoding.proofs.writing.next_place.Reads as next-place-reads
 use Rattle.encoding.proofs.writing.put_kind.Reads as put-kind-reads
 use Rattle.encoding.proofs.writing.put_value.Reads as put-value-reads
 
-put-kind-requires : tie.Need-put-kind-requires
+put-kind-requires : tie.Need-put_kind-requires
 put-kind-requires c κs = search rules
 
-put-value-requires : tie.Need-put-value-requires
+put-value-requires : tie.Need-put_value-requires
 put-value-requires c κs = search rules
 
-next-place-requires : tie.Need-next-place-requires
+next-place-requires : tie.Need-next_place-requires
 next-place-requires c κs = search rules
 
-same_length : tie.Need-same-length
+same_length : tie.Need-shape_of-kinds
 same_length c = search rules
 
-same-length-2 : tie.Need-same-length-2
+same-length-2 : tie.Need-shape_of-values
 same-length-2 c = search rules
 
 returns : tie.Need-returns
@@ -29,10 +29,10 @@ returns c =
     let v = c.before.before in
     let k = v.before.before.before.before in
     let s = k.before.before.before in
-    record { kinds = k.put-kind.ensures; values = rw (to_z-of_z s.ranges.value) at v.put-value.ensures; nodes = c.next_place.ensures }
+    record { kinds = k.put_kind.ensures; values = rw (to_z-of_z s.ranges.value) at v.put_value.ensures; nodes = c.next_place.ensures }
 
-pub put-node-spec : {M : Type 1} → statement M
-put-node-spec =
+pub put_node_spec : {M : Type 1} → statement M
+put_node_spec =
     tie.close
     (tie.spec
     put-kind-requires

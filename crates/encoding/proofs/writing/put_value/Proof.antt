@@ -7,20 +7,20 @@ use Rattle.encoding.proofs.writing.put_value.Tie as tie
 use Rattle.encoding.proofs.writing.put_value.Reads as reads
 use Rattle.encoding.proofs.writing.put_value.Lts as lts
 
-mul-value : tie.Need-overflow-mul-value
+mul-value : tie.Need-offset_bounds-values-at
 mul-value c = search rules
 
-slice-set-from-value : tie.Need-slice-set-from-value
+slice-set-from-value : tie.Need-bounds-values-at
 slice-set-from-value c = search rules
 
-same_length : tie.Need-same-length
+same_length : tie.Need-shape_of-values
 same_length c = search rules
 
-returns : tie.Need-returns
+returns : tie.Need-returns-then-at-values
 returns c = search rules
 
-returns-2 : tie.Need-returns-2
-returns-2 c = sym (set_out c.before.args.values.now c.before.args.at _ c.if1.false)
+returns-2 : tie.Need-returns-else-at-values
+returns-2 c = sym (set_out c.args.values.now c.args.at _ c.if-at-values.false)
 
-pub put-value-spec : {M : Type 1} → statement M
-put-value-spec = tie.close (tie.spec mul-value slice-set-from-value same_length returns returns-2)
+pub put_value_spec : {M : Type 1} → statement M
+put_value_spec = tie.close (tie.spec mul-value slice-set-from-value same_length returns returns-2)

@@ -7,11 +7,11 @@ use Rattle.expression.proofs.Tests.{divisor-low, divisor-high}
 use Rattle.expression.proofs.nodes.is_divisor.Statement.{statement}
 use Rattle.expression.proofs.nodes.is_divisor.Tie as tie
 
-returns : tie.Need-returns
-returns c = divisor-low c.before.args.value (rw (to_z-of_z c.before.ranges.value) at c.if1.true)
+returns : tie.Need-returns-then-value-lt1
+returns c = divisor-low c.args.value (rw (to_z-of_z c.ranges.value) at c.if-value-lt1.true)
 
-returns-2 : tie.Need-returns-2
-returns-2 c = rw (to_z-of_z c.before.ranges.value) (divisor-high c.before.args.value (rw (to_z-of_z c.before.ranges.value) at c.if1.false))
+returns-2 : tie.Need-returns
+returns-2 c = rw (to_z-of_z c.ranges.value) (divisor-high c.args.value (rw (to_z-of_z c.ranges.value) at c.if-value-lt1.false))
 
-pub is-divisor-spec : {M : Type 1} → statement M
-is-divisor-spec = tie.close (tie.spec returns returns-2)
+pub is_divisor_spec : {M : Type 1} → statement M
+is_divisor_spec = tie.close (tie.spec returns returns-2)

@@ -8,14 +8,14 @@ use Rattle.expression.proofs.Tests.{small_low, small-high}
 use Rattle.expression.proofs.nodes.is_small.Statement.{statement}
 use Rattle.expression.proofs.nodes.is_small.Tie as tie
 
-sub-if1 : tie.Need-overflow-sub-if1
+sub-if1 : tie.Need-overflow_sub-t-2
 sub-if1 c = search rules
 
-returns : tie.Need-returns
-returns c = small_low c.before.args.value (rw (to_z-of_z c.before.ranges.value) at c.if1.true)
+returns : tie.Need-returns-then-value
+returns c = small_low c.args.value (rw (to_z-of_z c.ranges.value) at c.if-value.true)
 
-returns-2 : tie.Need-returns-2
-returns-2 c = rw (to_z-of_z c.before.ranges.value) (small-high c.before.args.value (rw (to_z-of_z c.before.ranges.value) at c.if1.false))
+returns-2 : tie.Need-returns
+returns-2 c = rw (to_z-of_z c.ranges.value) (small-high c.args.value (rw (to_z-of_z c.ranges.value) at c.if-value.false))
 
-pub is-small-spec : {M : Type 1} → statement M
-is-small-spec = tie.close (tie.spec sub-if1 returns returns-2)
+pub is_small_spec : {M : Type 1} → statement M
+is_small_spec = tie.close (tie.spec sub-if1 returns returns-2)

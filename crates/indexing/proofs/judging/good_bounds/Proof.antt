@@ -7,34 +7,34 @@ use Rattle.indexing.specs.declared.Run.TheVariants as run
 use Rattle.indexing.proofs.judging.good_bounds.Statement.{statement}
 use Rattle.indexing.proofs.judging.good_bounds.Tie as tie
 
-held-requires : tie.Need-held-requires
+held-requires : tie.Need-held-dims-requires
 held-requires c κs = search rules
 
-held-requires-2 : tie.Need-held-requires-2
+held-requires-2 : tie.Need-held-ranges-requires
 held-requires-2 c κs = search rules
 
-good-intervals-requires : tie.Need-good-intervals-requires
+good-intervals-requires : tie.Need-good_intervals-requires
 good-intervals-requires c κs = search rules
 
-good-intervals-requires-2 : tie.Need-good-intervals-requires-2
+good-intervals-requires-2 : tie.Need-good_intervals-requires-then-good_intervals
 good-intervals-requires-2 c κs = search rules
 
-returns : tie.Need-returns
+returns : tie.Need-returns-then-good_intervals
 unfolding good_bounds
 returns c =
     let d = c.before.before.before.before.before.before.before in
-    let p = sym (rw d.before.before.before.before.before.before.before.held.ensures at d.good-intervals.ensures) ∙ c.before.before.before.before.before.before.if1.true in
-    rw p (rw d.before.before.before.before.before.before.held2.ensures at c.good-intervals2.ensures)
+    let p = sym (rw d.held-dims.ensures at d.good_intervals.ensures) ∙ c.if-good_intervals.true in
+    rw p (rw d.held-ranges.ensures at c.good_intervals-then-good_intervals.ensures)
 
-returns-2 : tie.Need-returns-2
+returns-2 : tie.Need-returns-else-good_intervals
 unfolding good_bounds
 returns-2 c =
     let d = c.before in
-    let p = sym (rw d.before.before.before.before.before.before.before.held.ensures at d.good-intervals.ensures) ∙ c.if1.false in
+    let p = sym (rw d.held-dims.ensures at d.good_intervals.ensures) ∙ c.if-good_intervals.false in
     rw p
 
-pub good-bounds-spec : {M : Type 1} → statement M
-good-bounds-spec =
+pub good_bounds_spec : {M : Type 1} → statement M
+good_bounds_spec =
     tie.close
     (tie.spec
     held-requires

@@ -6,21 +6,21 @@ use Rattle.indexing.specs.declared.Run.TheVariants as run
 use Rattle.indexing.proofs.judging.good_ends.Statement.{statement}
 use Rattle.indexing.proofs.judging.good_ends.Tie as tie
 
-held-requires : tie.Need-held-requires
+held-requires : tie.Need-held-count-requires
 held-requires c κs = search rules
 
-cast-good-intervals : tie.Need-overflow-cast-good-intervals
+cast-good-intervals : tie.Need-overflow_cast-good_intervals
 cast-good-intervals c = search rules
 
-good-intervals-requires : tie.Need-good-intervals-requires
+good-intervals-requires : tie.Need-good_intervals-requires
 good-intervals-requires c κs = search rules
 
 returns : tie.Need-returns
 unfolding good_ends
-returns c = rw c.before.before.before.before.before.before.held.ensures at c.good-intervals.ensures
+returns c = rw c.held-count.ensures at c.good_intervals.ensures
 
-pub good-ends-spec : {M : Type 1} → statement M
-good-ends-spec =
+pub good_ends_spec : {M : Type 1} → statement M
+good_ends_spec =
     tie.close
     (tie.spec
     held-requires

@@ -9,32 +9,32 @@ use Rattle.indexing.specs.declared.Run.TheVariants as run
 use Rattle.indexing.proofs.judging.good_parts.Statement.{statement}
 use Rattle.indexing.proofs.judging.good_parts.Tie as tie
 
-good-bounds-requires : tie.Need-good-bounds-requires
+good-bounds-requires : tie.Need-good_bounds-requires
 good-bounds-requires c κs = search rules
 
-returns : tie.Need-returns
+returns : tie.Need-returns-then-not-good_bounds
 unfolding good_parts
-returns c = rw (sym c.before.good-bounds.ensures ∙ not-true _ c.if1.true)
+returns c = rw (sym c.good_bounds.ensures ∙ not-true _ c.if-not-good_bounds.true-raw)
 
-bounds : (c : tie.Else1) → good_bounds c.before.before.args.m ≡ true
-bounds c = sym c.before.good-bounds.ensures ∙ not-false _ c.if1.false
+bounds : (c : tie.Else-not-good_bounds) → good_bounds c.args.m ≡ true
+bounds c = sym c.good_bounds.ensures ∙ not-false _ c.if-not-good_bounds.false-raw
 
-good-ends-requires : tie.Need-good-ends-requires
+good-ends-requires : tie.Need-good_ends-requires
 good-ends-requires c κs = search rules
 
-returns-2 : tie.Need-returns-2
+returns-2 : tie.Need-returns-then-not-good_ends
 unfolding good_parts
-returns-2 c = rw (bounds c.before.before, sym c.before.good-ends.ensures ∙ not-true _ c.if2.true)
+returns-2 c = rw (bounds c.before.before, sym c.good_ends.ensures ∙ not-true _ c.if-not-good_ends.true-raw)
 
-good-trees-requires : tie.Need-good-trees-requires
+good-trees-requires : tie.Need-good_trees-requires
 good-trees-requires c κs = search rules
 
-returns-3 : tie.Need-returns-3
+returns-3 : tie.Need-returns
 unfolding good_parts
-returns-3 c = rw (bounds c.before.before.before, sym c.before.before.good-ends.ensures ∙ not-false _ c.before.if2.false) c.good-trees.ensures
+returns-3 c = rw (bounds c.before.before.before, sym c.good_ends.ensures ∙ not-false _ c.if-not-good_ends.false-raw) c.good_trees.ensures
 
-pub good-parts-spec : {M : Type 1} → statement M
-good-parts-spec =
+pub good_parts_spec : {M : Type 1} → statement M
+good_parts_spec =
     tie.close
     (tie.spec
     good-bounds-requires

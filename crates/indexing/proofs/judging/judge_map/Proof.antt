@@ -15,8 +15,8 @@ returns : tie.Need-returns
 unfolding judged_map
 returns c = ap verdict_answer c.judged.ensures
 
-pub judge-map-spec : {M : Type 1} → statement M
-judge-map-spec =
+pub judge_map_spec : {M : Type 1} → statement M
+judge_map_spec =
     tie.close
     (tie.spec
     judged-requires

@@ -6,20 +6,20 @@ use Rattle.indexing.specs.declared.Run.TheVariants as run
 use Rattle.indexing.proofs.judging.low_end.Statement.{statement}
 use Rattle.indexing.proofs.judging.low_end.Tie as tie
 
-enum-known-r : tie.Need-enum-known-r
+enum-known-r : tie.Need-enum_known-r
 enum-known-r c = search rules
 
-enum_told : tie.Need-enum-told
+enum_told : tie.Need-enum_told-1
 enum_told c = search rules
 
-returns : tie.Need-returns
-returns c = rw c.before.r.given.1 (to_z-of_z (sfits_of c.known-told.given.0.1))
+returns : tie.Need-returns-in-Kept
+returns c = rw c.in-Kept.is (to_z-of_z (sfits_of c.known_told-1.given.0.1))
 
-returns-2 : tie.Need-returns-2
-returns-2 c = rw c.enum_told.given.1
+returns-2 : tie.Need-returns-in-Passed
+returns-2 c = rw c.in-Passed.is
 
-pub low-end-spec : {M : Type 1} → statement M
-low-end-spec =
+pub low_end_spec : {M : Type 1} → statement M
+low_end_spec =
     tie.close
     (tie.spec
     enum-known-r

@@ -11,32 +11,32 @@ use Rattle.indexing.proofs.judging.result_ranges.Tie as tie
 judged-requires : tie.Need-judged-requires
 judged-requires c κs = search rules
 
-enum_told : tie.Need-enum-told
+enum_told : tie.Need-enum_told-1
 enum_told c = search rules
 
 ranged-requires : tie.Need-ranged-requires
-ranged-requires c κs = accepted-of c.before.before.before.args.m (sym c.before.before.judged.ensures ∙ c.enum_told.given.1)
+ranged-requires c κs = accepted-of c.args.m (sym c.judged.ensures ∙ c.in-Done.is)
 
-returns : tie.Need-returns
+returns : tie.Need-returns-in-Done
 unfolding result_ranges
 returns c =
     let d = c.before in
-    rw (c.ranged.ensures, sym d.before.before.judged.ensures ∙ d.enum_told.given.1)
+    rw (c.ranged.ensures, sym d.judged.ensures ∙ d.in-Done.is)
 
-enum-known-r : tie.Need-enum-known-r
+enum-known-r : tie.Need-enum_known-r
 enum-known-r c = search rules
 
 unranged-requires : tie.Need-unranged-requires
 unranged-requires c κs = search rules
 
-returns-2 : tie.Need-returns-2
+returns-2 : tie.Need-returns-in-Refused
 unfolding result_ranges
 returns-2 c =
-    let d = c.before.before in
-    rw (c.unranged.ensures, sym d.before.before.judged.ensures ∙ d.r.given.1)
+    let d = c.before in
+    rw (c.unranged.ensures, sym d.judged.ensures ∙ d.in-Refused.is)
 
-pub result-ranges-spec : {M : Type 1} → statement M
-result-ranges-spec =
+pub result_ranges_spec : {M : Type 1} → statement M
+result_ranges_spec =
     tie.close
     (tie.spec
     judged-requires

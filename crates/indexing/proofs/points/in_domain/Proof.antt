@@ -8,26 +8,26 @@ use Rattle.indexing.specs.declared.Run.TheVariants as run
 use Rattle.indexing.proofs.points.in_domain.Statement.{statement}
 use Rattle.indexing.proofs.points.in_domain.Tie as tie
 
-in-bounds-requires : tie.Need-in-bounds-requires
+in-bounds-requires : tie.Need-in_bounds-requires
 in-bounds-requires c κs = search rules
 
-all-hold-requires : tie.Need-all-hold-requires
-all-hold-requires c κs = record { measured = c.before.before.requires; inside = sym c.before.in_bounds.ensures ∙ c.if1.true }
+all-hold-requires : tie.Need-all_hold-requires
+all-hold-requires c κs = record { measured = c.requires; inside = sym c.in_bounds.ensures ∙ c.if-in_bounds.true }
 
-returns : tie.Need-returns
+returns : tie.Need-returns-then-in_bounds
 unfolding in_domain
 returns c =
-    let p = c.before.before.before.requires in
-    rw (eq-eqb _ _ p.long-dims, eq-eqb _ _ p.long-ranges, sym c.before.before.in_bounds.ensures ∙ c.before.if1.true) c.all_hold.ensures
+    let p = c.requires in
+    rw (eq-eqb _ _ p.long-dims, eq-eqb _ _ p.long-ranges, sym c.in_bounds.ensures ∙ c.if-in_bounds.true) c.all_hold.ensures
 
-returns-2 : tie.Need-returns-2
+returns-2 : tie.Need-returns-else-in_bounds
 unfolding in_domain
 returns-2 c =
-    let p = c.before.before.requires in
-    rw (eq-eqb _ _ p.long-dims, eq-eqb _ _ p.long-ranges, sym c.before.in_bounds.ensures ∙ c.if1.false)
+    let p = c.requires in
+    rw (eq-eqb _ _ p.long-dims, eq-eqb _ _ p.long-ranges, sym c.in_bounds.ensures ∙ c.if-in_bounds.false)
 
-pub in-domain-spec : {M : Type 1} → statement M
-in-domain-spec =
+pub in_domain_spec : {M : Type 1} → statement M
+in_domain_spec =
     tie.close
     (tie.spec
     in-bounds-requires

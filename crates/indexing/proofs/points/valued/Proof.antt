@@ -15,54 +15,54 @@ use Rattle.indexing.proofs.Formed.{Counts, counts-of}
 use Rattle.indexing.proofs.points.valued.Statement.{statement}
 use Rattle.indexing.proofs.points.valued.Tie as tie
 
-abbrev invariant-loop : tie.invariant-loop
+abbrev invariant-loop : tie.invariant-loop-i
 invariant-loop m ds ss results values₀ i₀ values i = (i ≤ results) × (values ≡ values_of m ds ss i)
 
-abbrev decreases-loop : tie.decreases-loop
+abbrev decreases-loop : tie.decreases-loop-i
 decreases-loop m ds ss results values₀ i₀ values i = results - i
 
-loop-holds : tie.Need-loop-init invariant-loop decreases-loop
+loop-holds : tie.Need-loop-i-init invariant-loop decreases-loop
 loop-holds c = (search rules, sym (front-none _ max_results))
 
 -- the results number at most eight
 few : (s : tie.Start invariant-loop decreases-loop) → Counts s.args.m
 few s = counts-of s.args.m s.requires.measured.accepted.formed.counts
 
-value-at-requires : tie.Need-value-at-requires invariant-loop decreases-loop
+value-at-requires : tie.Need-value_at-requires invariant-loop decreases-loop
 value-at-requires c κs = let s = c.before.before in (s.requires, omega (arith, (few s).results))
 
-mul-values : tie.Need-overflow-mul-values invariant-loop decreases-loop
+mul-values : tie.Need-offset_bounds-values-i invariant-loop decreases-loop
 mul-values c = record { fits = omega (arith, (few c.before.before.before).results) }
 
-array-set-from-values : tie.Need-array-set-from-values invariant-loop decreases-loop
+array-set-from-values : tie.Need-bounds-values-i invariant-loop decreases-loop
 array-set-from-values c = omega (arith, (few c.before.before.before).results)
 
-add-i : tie.Need-overflow-add-i invariant-loop decreases-loop
+add-i : tie.Need-overflow_add-i invariant-loop decreases-loop
 add-i c = search rules
 
-loop-less : tie.Need-loop-smaller invariant-loop decreases-loop
+loop-less : tie.Need-loop-i-smaller invariant-loop decreases-loop
 loop-less c = search rules
 
-loop-again : tie.Need-loop-preserved invariant-loop decreases-loop
+loop-again : tie.Need-loop-i-preserved invariant-loop decreases-loop
 loop-again c =
     let l = c.before.before in
-    let a = l.before.args in
-    let h : l.loop.i < max_results = omega (arith, (few l.before).results) in
-    rw (to_z-of_z (sfits_of c.value-at.type-inv)) (
+    let a = l.args in
+    let h : l.loop-i.i < max_results = omega (arith, (few l.before).results) in
+    rw (to_z-of_z (sfits_of c.value_at.type_inv)) (
       search rules,
-      ap₂ (λ (x : List ℤ) (z : ℤ). set x l.loop.i z) l.loop.invariant.1 c.value-at.ensures
-          ∙ front-next (value_at a.m a.ds.now a.ss.now) l.loop.i max_results h,
+      ap₂ (λ (x : List ℤ) (z : ℤ). set x l.loop-i.i z) l.loop-i.invariant.1 c.value_at.ensures
+          ∙ front-next (value_at a.m a.ds.now a.ss.now) l.loop-i.i max_results h,
     )
 
 returns : tie.Need-returns invariant-loop decreases-loop
 returns c =
     let l = c.before in
-    let m = l.before.args.m in
-    let e : l.loop.i ≡ m.results = omega (arith, c.loop-test.false) in
-    rw (l.loop.invariant.1, e)
+    let m = l.args.m in
+    let e : l.loop-i.i ≡ m.results = omega (arith, c.loop-i-test.false) in
+    rw (l.loop-i.invariant.1, e)
 
-pub valued-spec : {M : Type 1} → statement M
-valued-spec =
+pub valued_spec : {M : Type 1} → statement M
+valued_spec =
     tie.close
     (tie.spec
     invariant-loop

@@ -8,28 +8,28 @@ use Rattle.indexing.specs.declared.Run.TheVariants as run
 use Rattle.indexing.proofs.runs.count_at.Statement.{statement}
 use Rattle.indexing.proofs.runs.count_at.Tie as tie
 
-mul-result : tie.Need-overflow-mul-result
+mul-result : tie.Need-offset_bounds-results-i
 mul-result c = search rules
 
-shared-slice-read-result : tie.Need-shared-slice-read-result
+shared-slice-read-result : tie.Need-bounds-results-i
 shared-slice-read-result c = omega arith
 
-returns : tie.Need-returns
+returns : tie.Need-returns-then-i-n
 unfolding count_in
-returns c = let t = lt-ltb _ _ c.before.if1.true in rw t
+returns c = let t = lt-ltb _ _ c.if-i-n.true in rw t
 
-mul-result-2 : tie.Need-overflow-mul-result-2
+mul-result-2 : tie.Need-offset_bounds-constraints-k
 mul-result-2 c = search rules
 
-shared-slice-read-result-2 : tie.Need-shared-slice-read-result-2
+shared-slice-read-result-2 : tie.Need-bounds-constraints-k
 shared-slice-read-result-2 c = omega arith
 
-returns-2 : tie.Need-returns-2
+returns-2 : tie.Need-returns
 unfolding count_in
-returns-2 c = let t = le-ltb _ _ c.before.if1.false in rw t
+returns-2 c = let t = le-ltb _ _ c.if-i-n.false in rw t
 
-pub count-at-spec : {M : Type 1} → statement M
-count-at-spec =
+pub count_at_spec : {M : Type 1} → statement M
+count_at_spec =
     tie.close
     (tie.spec
     mul-result

@@ -11,53 +11,53 @@ use Rattle.indexing.proofs.Starts.{start-next}
 use Rattle.indexing.proofs.runs.start_of.Statement.{statement}
 use Rattle.indexing.proofs.runs.start_of.Tie as tie
 
-abbrev invariant-loop : tie.invariant-loop
+abbrev invariant-loop : tie.invariant-loop-j
 invariant-loop results constraints n i start₀ j₀ start j = (j ≤ i) × (start ≡ min (start_of (count_in results constraints n) j) (max_nodes + 1))
 
-abbrev decreases-loop : tie.decreases-loop
+abbrev decreases-loop : tie.decreases-loop-j
 decreases-loop results constraints n i start₀ j₀ start j = i - j
 
-loop-holds : tie.Need-loop-init invariant-loop decreases-loop
+loop-holds : tie.Need-loop-j-init invariant-loop decreases-loop
 unfolding start_of
 loop-holds c = (search rules, refl)
 
-count-at-requires : tie.Need-count-at-requires invariant-loop decreases-loop
-count-at-requires c κs = record { held = c.before.before.before.before.requires.held; below = omega arith }
+count-at-requires : tie.Need-count_at-count-requires invariant-loop decreases-loop
+count-at-requires c κs = record { held = c.requires.held; below = omega arith }
 
-add-if1 : tie.Need-overflow-add-if1 invariant-loop decreases-loop
+add-if1 : tie.Need-overflow_add-t-9 invariant-loop decreases-loop
 add-if1 c = search rules
 
-sub-if1 : tie.Need-overflow-sub-if1 invariant-loop decreases-loop
+sub-if1 : tie.Need-overflow_sub-start invariant-loop decreases-loop
 sub-if1 c = omega arith
 
-add_start : tie.Need-overflow-add-start invariant-loop decreases-loop
+add_start : tie.Need-overflow_add-start invariant-loop decreases-loop
 add_start c = search rules
 
-add-start-2 : tie.Need-overflow-add-start-2 invariant-loop decreases-loop
+add-start-2 : tie.Need-overflow_add-start-else-start-count invariant-loop decreases-loop
 add-start-2 c = record { fits = omega arith }
 
-add-j : tie.Need-overflow-add-j invariant-loop decreases-loop
+add-j : tie.Need-overflow_add-j invariant-loop decreases-loop
 add-j c = search rules
 
-loop-less : tie.Need-loop-smaller invariant-loop decreases-loop
+loop-less : tie.Need-loop-j-smaller invariant-loop decreases-loop
 loop-less c = search rules
 
-loop-again : tie.Need-loop-preserved invariant-loop decreases-loop
+loop-again : tie.Need-loop-j-preserved invariant-loop decreases-loop
 loop-again c =
     let l = c.before.before.before in
-    let a = l.before.before.before.args in
-    let q = start-next (count_in a.results.now a.constraints.now a.n) l.loop.j in
-    (omega arith, ⊎_elim (λ w. omega (arith, c.before.count_at.ensures)) (λ w. omega (arith, c.before.count_at.ensures)) c.if1.branch)
+    let a = l.args in
+    let q = start-next (count_in a.results.now a.constraints.now a.n) l.loop-j.j in
+    (omega arith, ⊎_elim (λ w. omega (arith, c.count_at-count.ensures)) (λ w. omega (arith, c.count_at-count.ensures)) c.if-start-count.branch)
 
 returns : tie.Need-returns invariant-loop decreases-loop
 returns c =
     let l = c.before in
-    let a = l.before.before.before.args in
-    let e : l.loop.j ≡ a.i = omega (arith, c.loop-test.false) in
-    l.loop.invariant.1 ∙ ap (λ (j : ℕ). min (start_of (count_in a.results.now a.constraints.now a.n) j) (max_nodes + 1)) e
+    let a = l.args in
+    let e : l.loop-j.j ≡ a.i = omega (arith, c.loop-j-test.false) in
+    l.loop-j.invariant.1 ∙ ap (λ (j : ℕ). min (start_of (count_in a.results.now a.constraints.now a.n) j) (max_nodes + 1)) e
 
-pub start-of-spec : {M : Type 1} → statement M
-start-of-spec =
+pub start_of_spec : {M : Type 1} → statement M
+start_of_spec =
     tie.close
     (tie.spec
     invariant-loop

@@ -6,11 +6,11 @@ use Rattle.layout.proofs.Rules.{done-shape, done-layout, done-size}
 use Rattle.layout.proofs.inner.padded_cells.Statement.{statement}
 use Rattle.layout.proofs.inner.padded_cells.Tie as tie
 
-padded-capped-requires : tie.Need-padded-capped-requires
+padded-capped-requires : tie.Need-padded_capped-requires
 padded-capped-requires c κs = (done-shape _ _ c.requires, done-layout _ _ c.requires)
 
 returns : tie.Need-returns
-returns c = c.padded-capped.ensures ∙ min-eq_left (omega (arith, done-size _ _ c.before.requires))
+returns c = c.padded_capped.ensures ∙ min-eq_left (omega (arith, done-size _ _ c.requires))
 
-pub padded-cells-spec : {M : Type 1} → statement M
-padded-cells-spec = tie.close (tie.spec padded-capped-requires returns)
+pub padded_cells_spec : {M : Type 1} → statement M
+padded_cells_spec = tie.close (tie.spec padded-capped-requires returns)

@@ -14,30 +14,30 @@ use Rattle.layout.proofs.inner.point_offset.Tie as tie
 good : (s : tie.Start) → Limits s.args.shape
 good s = limits s.args.shape (search rules) (done-shape _ _ s.requires.0)
 
-array-share-prefix-sizes : tie.Need-array-share-prefix-sizes
+array-share-prefix-sizes : tie.Need-slice_bounds-sizes-end
 array-share-prefix-sizes c = (good c.before.before).room
 
-slice-aggregate-row-major : tie.Need-slice-aggregate-row-major
+slice-aggregate-row-major : tie.Need-slice_bounds-row_major-end
 slice-aggregate-row-major c = sym (good c.before.before.before).long
 
-row-major-requires : tie.Need-row-major-requires
+row-major-requires : tie.Need-row_major-n-requires
 row-major-requires c κs = let s = c.before.before.before in (s.requires.1, (good s).count)
 
-offset-number-requires : tie.Need-offset-number-requires
+offset-number-requires : tie.Need-offset_number-requires
 offset-number-requires c κs =
     let s = c.before.before.before.before in
-    (s.requires.0, subst (λ (n : ℕ). n < count_of s.args.shape) (sym c.row-major.ensures) (below s.requires.1))
+    (s.requires.0, subst (λ (n : ℕ). n < count_of s.args.shape) (sym c.row_major-n.ensures) (below s.requires.1))
 
 returns : tie.Need-returns
 unfolding offset
 returns c =
     let s = c.before.before.before.before.before in
-    c.offset-number.ensures
-    ∙ ap (offset_of s.args.shape s.args.layout) c.before.row-major.ensures
+    c.offset_number.ensures
+    ∙ ap (offset_of s.args.shape s.args.layout) c.row_major-n.ensures
     ∙ ap (point_offset_of s.args.shape s.args.layout) (digits-row_major s.requires.1)
 
-pub point-offset-spec : {M : Type 1} → statement M
-point-offset-spec =
+pub point_offset_spec : {M : Type 1} → statement M
+point_offset_spec =
     tie.close
     (tie.spec
     array-share-prefix-sizes

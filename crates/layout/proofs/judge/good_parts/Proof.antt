@@ -10,58 +10,58 @@ use Rattle.layout.specs.Layout.{good_layout}
 use Rattle.layout.proofs.judge.good_parts.Statement.{statement}
 use Rattle.layout.proofs.judge.good_parts.Tie as tie
 
-returns : tie.Need-returns
+returns : tie.Need-returns-then-n-rank
 unfolding good_layout
-returns c = rw (ne_eqb _ _ c.if1.true)
+returns c = rw (ne_eqb _ _ c.if-n-rank.true)
 
-returns-2 : tie.Need-returns-2
+returns-2 : tie.Need-returns-then-n-gt-MAX_RANK
 unfolding good_layout
-returns-2 c = rw (eq-eqb _ _ c.before.if1.false, lt-leb _ _ c.if2.true)
+returns-2 c = rw (eq-eqb _ _ c.if-n-rank.false, lt-leb _ _ c.if-n-gt-MAX_RANK.true)
 
-returns-3 : tie.Need-returns-3
+returns-3 : tie.Need-returns-then-tiles-gt-MAX_TILES
 unfolding good_layout
-returns-3 c = rw (eq-eqb _ _ c.before.before.if1.false, le-leb _ _ c.before.if2.false, lt-leb _ _ c.if3.true)
+returns-3 c = rw (eq-eqb _ _ c.if-n-rank.false, le-leb _ _ c.if-n-gt-MAX_RANK.false, lt-leb _ _ c.if-tiles-gt-MAX_TILES.true)
 
 -- as many tiles as are counted
-tiles : (e : tie.Else3) → length (take e.before.before.before.before.before.before.args.tiles e.before.before.before.before.before.before.args.lens.now) ≡ e.before.before.before.before.before.before.args.tiles
+tiles : (e : tie.Else-tiles-gt-MAX_TILES) → length (take e.args.tiles e.args.lens.now) ≡ e.args.tiles
 tiles e =
     let s = e.before.before.before.before.before.before in
-    length-take-le s.args.tiles s.args.lens.now (omega (arith, s.requires.1, e.if3.false))
+    length-take-le s.args.tiles s.args.lens.now (omega (arith, s.requires.1, e.if-tiles-gt-MAX_TILES.false))
 
-slice-aggregate-is-permutation : tie.Need-slice-aggregate-is-permutation
+slice-aggregate-is-permutation : tie.Need-slice_bounds-is_permutation-end
 slice-aggregate-is-permutation c =
     let e = c.before in
     let s = c.before.before.before.before.before.before.before in
-    sym (length-take-le s.args.n s.args.m.now (omega (arith, s.requires.0, e.before.if2.false)))
+    sym (length-take-le s.args.n s.args.m.now (omega (arith, s.requires.0, e.if-n-gt-MAX_RANK.false)))
 
-is-permutation-requires : tie.Need-is-permutation-requires
+is-permutation-requires : tie.Need-is_permutation-requires
 is-permutation-requires c κs = search rules
 
-slice-aggregate-good-tiles : tie.Need-slice-aggregate-good-tiles
+slice-aggregate-good-tiles : tie.Need-slice_bounds-good_tiles-end
 slice-aggregate-good-tiles c = sym (tiles c.before.before.before.before)
 
-good-tiles-requires : tie.Need-good-tiles-requires
+good-tiles-requires : tie.Need-good_tiles-requires
 good-tiles-requires c κs =
     let e = c.before.before.before.before in
     let s = e.before.before.before.before.before.before in
-    (e.before.if2.false, omega (arith, tiles e, e.if3.false), s.requires.2)
+    (e.if-n-gt-MAX_RANK.false, omega (arith, tiles e, e.if-tiles-gt-MAX_TILES.false), s.requires.2)
 
-returns-4 : tie.Need-returns-4
+returns-4 : tie.Need-returns-then-is_permutation
 unfolding good_layout
 returns-4 c =
     let t = c.before.before in
     let e = t.before.before.before in
-    rw (eq-eqb _ _ e.before.before.if1.false, le-leb _ _ e.before.if2.false, le-leb _ _ e.if3.false, sym t.before.is-permutation.ensures ∙ t.if4.true)
-    c.good-tiles.ensures
+    rw (eq-eqb _ _ e.if-n-rank.false, le-leb _ _ e.if-n-gt-MAX_RANK.false, le-leb _ _ e.if-tiles-gt-MAX_TILES.false, sym t.is_permutation.ensures ∙ t.if-is_permutation.true)
+    c.good_tiles.ensures
 
-returns-5 : tie.Need-returns-5
+returns-5 : tie.Need-returns-else-is_permutation
 unfolding good_layout
 returns-5 c =
     let e = c.before.before.before in
-    rw (eq-eqb _ _ e.before.before.if1.false, le-leb _ _ e.before.if2.false, le-leb _ _ e.if3.false, sym c.before.is-permutation.ensures ∙ c.if4.false)
+    rw (eq-eqb _ _ e.if-n-rank.false, le-leb _ _ e.if-n-gt-MAX_RANK.false, le-leb _ _ e.if-tiles-gt-MAX_TILES.false, sym c.is_permutation.ensures ∙ c.if-is_permutation.false)
 
-pub good-parts-spec : {M : Type 1} → statement M
-good-parts-spec =
+pub good_parts_spec : {M : Type 1} → statement M
+good_parts_spec =
     tie.close
     (tie.spec
     returns

@@ -7,29 +7,29 @@ use Rattle.shape.specs.Shape.{good_shape}
 use Rattle.layout.proofs.judge.judge_fit.Statement.{statement}
 use Rattle.layout.proofs.judge.judge_fit.Tie as tie
 
-good-shape-requires : tie.Need-good-shape-requires
+good-shape-requires : tie.Need-good_shape-requires
 good-shape-requires c κs = search rules
 
-returns : tie.Need-returns
-returns c = rw (sym c.before.good-shape.ensures ∙ not-true c.before.good-shape.result c.if1.true)
+returns : tie.Need-returns-then-not-good_shape
+returns c = rw (sym c.good_shape.ensures ∙ not-true c.good_shape.result c.if-not-good_shape.true-raw)
 
-shape-kept : (c : tie.Else1) → good_shape c.before.before.args.shape ≡ true
-shape-kept c = sym c.before.good-shape.ensures ∙ not-false c.before.good-shape.result c.if1.false
+shape-kept : (c : tie.Else-not-good_shape) → good_shape c.args.shape ≡ true
+shape-kept c = sym c.good_shape.ensures ∙ not-false c.good_shape.result c.if-not-good_shape.false-raw
 
-returns-2 : tie.Need-returns-2
-returns-2 c = rw (shape-kept c.before, lt-leb _ _ c.if2.true)
+returns-2 : tie.Need-returns-then-limit-lt1
+returns-2 c = rw (shape-kept c.before, lt-leb _ _ c.if-limit-lt1.true)
 
-returns-3 : tie.Need-returns-3
-returns-3 c = rw (shape-kept c.before.before, le-leb _ _ c.before.if2.false, lt-leb _ _ c.if3.true)
+returns-3 : tie.Need-returns-then-limit-gt-MAX_COUNT
+returns-3 c = rw (shape-kept c.before.before, le-leb _ _ c.if-limit-lt1.false, lt-leb _ _ c.if-limit-gt-MAX_COUNT.true)
 
-judge-layout-requires : tie.Need-judge-layout-requires
+judge-layout-requires : tie.Need-judge_layout-requires
 judge-layout-requires c κs = search rules
 
-returns-4 : tie.Need-returns-4
+returns-4 : tie.Need-returns
 returns-4 c =
     let t = c.before in
     let k = shape-kept t.before.before in
-    rw (k, le-leb _ _ t.before.if2.false, le-leb _ _ t.if3.false) (rw k at c.judge-layout.ensures)
+    rw (k, le-leb _ _ t.if-limit-lt1.false, le-leb _ _ t.if-limit-gt-MAX_COUNT.false) (rw k at c.judge_layout.ensures)
 
-pub judge-fit-spec : {M : Type 1} → statement M
-judge-fit-spec = tie.close (tie.spec good-shape-requires returns returns-2 returns-3 judge-layout-requires returns-4)
+pub judge_fit_spec : {M : Type 1} → statement M
+judge_fit_spec = tie.close (tie.spec good-shape-requires returns returns-2 returns-3 judge-layout-requires returns-4)

@@ -21,65 +21,65 @@ long s =
     let e : length (reversed s.args.m.now) ≡ length s.args.m.now = length-tab _ (length s.args.m.now) in
     (e, omega (arith, s.requires.0.rank, s.requires.0.few))
 
-reverse-into-requires : tie.Need-reverse-into-requires
+reverse-into-requires : tie.Need-reverse_into-requires
 reverse-into-requires c κs =
     let s = c.before.before.before.before.before.before.before in
     omega (arith, (long s).1, s.requires.1.0)
 
 -- where the function starts, and the order that is read
-abbrev start : tie.After-reverse-into → tie.Start
+abbrev start : tie.After-reverse_into → tie.Start
 start c = c.before.before.before.before.before.before.before.before
 
-abbrev Order : tie.After-reverse-into → List ℕ
-Order c = take (length (start c).args.m.now) c.reverse-into.new.1.0
+abbrev Order : tie.After-reverse_into → List ℕ
+Order c = take (length (start c).args.m.now) c.reverse_into.new.1.0
 
-room : (r : tie.After-reverse-into) → length (start r).args.m.now ≤ length r.reverse-into.new.1.0
-room r = omega (arith, (long (start r)).1, (start r).requires.1.0, r.reverse-into.auto.1.0)
+room : (r : tie.After-reverse_into) → length (start r).args.m.now ≤ length r.reverse_into.new.1.0
+room r = omega (arith, (long (start r)).1, (start r).requires.1.0, r.reverse_into.auto.1.0)
 
-slice-reshare-prefix-dims-into : tie.Need-slice-reshare-prefix-dims-into
+slice-reshare-prefix-dims-into : tie.Need-slice_bounds-dims_into-end
 slice-reshare-prefix-dims-into c = room c.before.before
 
-slice-aggregate-dims-into : tie.Need-slice-aggregate-dims-into
-slice-aggregate-dims-into c = let r = c.before.before.before in sym (length-take-le (length (start r).args.m.now) r.reverse-into.new.1.0 (room r))
+slice-aggregate-dims-into : tie.Need-slice_bounds-dims_into-end-2
+slice-aggregate-dims-into c = let r = c.before.before.before in sym (length-take-le (length (start r).args.m.now) r.reverse_into.new.1.0 (room r))
 
-dims-into-requires : tie.Need-dims-into-requires
+dims-into-requires : tie.Need-dims_into-len-requires
 dims-into-requires c κs =
     let r = c.before.before.before.before in
     let s = start r in
-    let g = s.pre.0 in
-    let e = r.reverse-into.ensures in (
-      (omega (arith, ap length e, (long s).0, (long s).1), g.tiles, s.pre.1.1),
+    let g = s.requires.0 in
+    let e = r.reverse_into.ensures in (
+      (omega (arith, ap length e, (long s).0, (long s).1), g.tiles, s.requires.1.1),
       (subst (Under (length s.args.sizes.now)) (sym e) (shaped-under g _ refl), (g.small, subst (λ (l : List ℕ). Levels s.args.lens.now s.args.flat.now (length l)) (sym e) g.levels)),
     )
 
 -- the physical shape that is written
-same : (d : tie.After-dims-into) → take d.dims-into.result d.dims-into.new.1.1.1.1.0 ≡ physical (start d.before.before.before.before.before).args.sizes.now (reversed (start d.before.before.before.before.before).args.m.now) (tiles_from (start d.before.before.before.before.before).args.lens.now (start d.before.before.before.before.before).args.flat.now)
+same : (d : tie.After-dims_into-len) → take d.dims_into-len.result d.dims_into-len.new.1.1.1.1.0 ≡ physical (start d.before.before.before.before.before).args.sizes.now (reversed (start d.before.before.before.before.before).args.m.now) (tiles_from (start d.before.before.before.before.before).args.lens.now (start d.before.before.before.before.before).args.flat.now)
 same d =
     let r = d.before.before.before.before.before in
     let a = (start r).args in
-    d.dims-into.ensures.1 ∙ ap (λ (p : List ℕ). physical a.sizes.now p (tiles_from a.lens.now a.flat.now)) r.reverse-into.ensures
+    d.dims_into-len.ensures.1 ∙ ap (λ (p : List ℕ). physical a.sizes.now p (tiles_from a.lens.now a.flat.now)) r.reverse_into.ensures
 
-product-requires : tie.Need-product-requires
+product-requires : tie.Need-product-count-requires
 product-requires c κs = search rules
 
-slice-reshare-prefix-product : tie.Need-slice-reshare-prefix-product
+slice-reshare-prefix-product : tie.Need-slice_bounds-product-end
 slice-reshare-prefix-product c = search rules
 
-slice-aggregate-product : tie.Need-slice-aggregate-product
+slice-aggregate-product : tie.Need-slice_bounds-product-end-2
 slice-aggregate-product c =
     let d = c.before.before.before.before in
     let s = start d.before.before.before.before.before in
-    sym (length-take-le d.dims-into.result d.dims-into.new.1.1.1.1.0 (omega (arith, d.dims-into.ensures.0, d.dims-into.auto.1.1.1.1.0, s.pre.1.1)))
+    sym (length-take-le d.dims_into-len.result d.dims_into-len.new.1.1.1.1.0 (omega (arith, d.dims_into-len.ensures.0, d.dims_into-len.auto.1.1.1.1.0, s.requires.1.1)))
 
-product-requires-2 : tie.Need-product-requires-2
+product-requires-2 : tie.Need-product-padded-requires
 product-requires-2 c κs =
     let d = c.before.before.before.before in
     subst Sizes (sym (same d)) (shaped-small (start d.before.before.before.before.before).requires.0)
 
-same_length : tie.Need-same-length
+same_length : tie.Need-shape_of-order
 same_length c = search rules
 
-same-length-2 : tie.Need-same-length-2
+same-length-2 : tie.Need-shape_of-dims
 same-length-2 c = search rules
 
 returns : tie.Need-returns
@@ -89,15 +89,15 @@ returns c =
     let r = d.before.before.before.before.before in
     let s = start r in
     record {
-      order = r.reverse-into.ensures;
-      fits = d.dims-into.ensures.0;
+      order = r.reverse_into.ensures;
+      fits = d.dims_into-len.ensures.0;
       same = same d;
-      count = c.before.before.product.ensures ∙ min-eq_left (omega (arith, s.pre.0.count));
-      padded = c.product2.ensures ∙ ap (λ (l : List ℕ). min (prod l) (max_count + 1)) (same d);
+      count = c.product-count.ensures ∙ min-eq_left (omega (arith, s.requires.0.count));
+      padded = c.product-padded.ensures ∙ ap (λ (l : List ℕ). min (prod l) (max_count + 1)) (same d);
     }
 
-pub lay-out-spec : {M : Type 1} → statement M
-lay-out-spec =
+pub lay_out_spec : {M : Type 1} → statement M
+lay_out_spec =
     tie.close
     (tie.spec
     reverse-into-requires

@@ -20,7 +20,7 @@ use Rattle.layout.proofs.parts.measure.Statement.{statement}
 use Rattle.layout.proofs.parts.measure.Tie as tie
 
 -- where the function starts, and the layout of the parts
-abbrev start : tie.After-good-shape → tie.Start
+abbrev start : tie.After-good_shape → tie.Start
 start g = g.before.before.before.before.before.before
 
 abbrev L : tie.Start → Layout
@@ -29,87 +29,87 @@ L s = layout_from s.args.rank s.args.m.now s.args.tiles s.args.lens.now s.args.f
 arrays : (s : tie.Start) → Arrays (L s)
 arrays s = record { order = s.requires.minor; lens = s.requires.tiles; tile = s.requires.entries }
 
-good-shape-requires : tie.Need-good-shape-requires
+good-shape-requires : tie.Need-good_shape-requires
 good-shape-requires c κs = search rules
 
 unmeasured-requires : tie.Need-unmeasured-requires
 unmeasured-requires c κs = search rules
 
-returns : tie.Need-returns
+returns : tie.Need-returns-then-not-good_shape
 returns c =
     let g = c.before.before in
-    let e = sym g.good-shape.ensures ∙ not-true g.good-shape.result c.before.if1.true in
+    let e = sym g.good_shape.ensures ∙ not-true g.good_shape.result c.if-not-good_shape.true-raw in
     (rw e c.unmeasured.ensures, never_done _ _ c.unmeasured.ensures)
 
-shape-kept : (e : tie.Else1) → good_shape (start e.before).args.shape ≡ true
-shape-kept e = sym e.before.good-shape.ensures ∙ not-false e.before.good-shape.result e.if1.false
+shape-kept : (e : tie.Else-not-good_shape) → good_shape (start e.before).args.shape ≡ true
+shape-kept e = sym e.good_shape.ensures ∙ not-false e.good_shape.result e.if-not-good_shape.false-raw
 
-good-parts-requires : tie.Need-good-parts-requires
-good-parts-requires c κs = let s = start c.before in (s.pre.minor, s.pre.tiles, s.pre.entries)
+good-parts-requires : tie.Need-good_parts-requires
+good-parts-requires c κs = let s = start c.before in (s.requires.minor, s.requires.tiles, s.requires.entries)
 
-unmeasured-requires-2 : tie.Need-unmeasured-requires-2
+unmeasured-requires-2 : tie.Need-unmeasured-requires-then-not-good_parts
 unmeasured-requires-2 c κs = search rules
 
-returns-2 : tie.Need-returns-2
+returns-2 : tie.Need-returns-then-not-good_parts
 returns-2 c =
     let p = c.before.before in
-    let e = sym p.good-parts.ensures ∙ not-true p.good-parts.result c.before.if2.true in
-    (rw (shape-kept p.before, e) c.unmeasured2.ensures, never_done _ _ c.unmeasured2.ensures)
+    let e = sym p.good_parts.ensures ∙ not-true p.good_parts.result c.if-not-good_parts.true-raw in
+    (rw (shape-kept p.before, e) c.unmeasured-then-not-good_parts.ensures, never_done _ _ c.unmeasured-then-not-good_parts.ensures)
 
-layout-kept : (e : tie.Else2) → good_layout (start e.before.before.before).args.shape.rank (L (start e.before.before.before)) ≡ true
-layout-kept e = sym e.before.good-parts.ensures ∙ not-false e.before.good-parts.result e.if2.false
+layout-kept : (e : tie.Else-not-good_parts) → good_layout (start e.before.before.before).args.shape.rank (L (start e.before.before.before)) ≡ true
+layout-kept e = sym e.good_parts.ensures ∙ not-false e.good_parts.result e.if-not-good_parts.false-raw
 
 -- the shape and the layout keep their rules
-good : (e : tie.Else2) → Good (start e.before.before.before).args.shape (L (start e.before.before.before))
+good : (e : tie.Else-not-good_parts) → Good (start e.before.before.before).args.shape (L (start e.before.before.before))
 good e =
     let s = start e.before.before.before in
     good_of s.args.shape (L s) (search rules) (arrays s) (shape-kept e.before.before) (layout-kept e)
 
-array-share-prefix-sizes : tie.Need-array-share-prefix-sizes
+array-share-prefix-sizes : tie.Need-slice_bounds-sizes-end
 array-share-prefix-sizes c = (good c.before).limits.room
 
-slice-aggregate-lay-out : tie.Need-slice-aggregate-lay-out
+slice-aggregate-lay-out : tie.Need-slice_bounds-lay_out-end
 slice-aggregate-lay-out c = sym (good c.before.before).limits.long
 
-slice-aggregate-lay-out-2 : tie.Need-slice-aggregate-lay-out-2
+slice-aggregate-lay-out-2 : tie.Need-slice_bounds-lay_out-end-2
 slice-aggregate-lay-out-2 c = sym (good c.before.before.before).kept.long
 
-slice-aggregate-lay-out-3 : tie.Need-slice-aggregate-lay-out-3
+slice-aggregate-lay-out-3 : tie.Need-slice_bounds-lay_out-end-3
 slice-aggregate-lay-out-3 c = sym (good c.before.before.before.before).kept.tile-long
 
-lay-out-requires : tie.Need-lay-out-requires
+lay-out-requires : tie.Need-lay_out-extent-requires
 lay-out-requires c κs =
     let e = c.before.before.before.before.before.before in
     let s = start e.before.before.before in
     let g = good e in (
       subst (λ (m : List ℕ). Shaped (sizes_of s.args.shape) (reversed m) (lens_of (L s)) s.args.flat.now) (sym g.kept.read) (shaped_of g.limits g.kept),
-      (s.pre.order, s.pre.shape),
+      (s.requires.order, s.requires.shape),
     )
 
-unmeasured-requires-3 : tie.Need-unmeasured-requires-3
+unmeasured-requires-3 : tie.Need-unmeasured-requires-else-extent-le-MAX_COUNT
 unmeasured-requires-3 c κs = search rules
 
-same_length : tie.Need-same-length
+same_length : tie.Need-shape_of-order-then-extent-le-MAX_COUNT
 same_length c = search rules
 
-same-length-2 : tie.Need-same-length-2
+same-length-2 : tie.Need-shape_of-dims-then-extent-le-MAX_COUNT
 same-length-2 c = search rules
 
 -- the padded size with its limit
-capped : (o : tie.After-lay-out) → o.lay-out.result.padded ≡ min (padded_of (start o.before.before.before.before.before.before.before.before.before.before).args.shape (L (start o.before.before.before.before.before.before.before.before.before.before))) (max_count + 1)
+capped : (o : tie.After-lay_out-extent) → o.lay_out-extent.result.padded ≡ min (padded_of (start o.before.before.before.before.before.before.before.before.before.before).args.shape (L (start o.before.before.before.before.before.before.before.before.before.before))) (max_count + 1)
 capped o =
     let e = o.before.before.before.before.before.before.before in
     let s = start e.before.before.before in
-    o.lay-out.ensures.padded ∙ ap (λ (m : List ℕ). min (padded (sizes_of s.args.shape) (reversed m) (tiles_of (L s))) (max_count + 1)) (good e).kept.read
+    o.lay_out-extent.ensures.padded ∙ ap (λ (m : List ℕ). min (padded (sizes_of s.args.shape) (reversed m) (tiles_of (L s))) (max_count + 1)) (good e).kept.read
 
-returns-3 : tie.Need-returns-3
+returns-3 : tie.Need-returns-then-extent-le-MAX_COUNT
 returns-3 c =
     let o = c.before.before.before.before.before.before in
     let e = o.before.before.before.before.before.before.before in
     let s = start e.before.before.before in
-    let x = o.lay-out.ensures in
+    let x = o.lay_out-extent.ensures in
     let k = (good e).kept in
-    let small : padded_of s.args.shape (L s) ≤ max_count = under-cap _ _ (capped o) c.if3.true in (
+    let small : padded_of s.args.shape (L s) ≤ max_count = under-cap _ _ (capped o) c.if-extent-le-MAX_COUNT.true in (
       rw (shape-kept e.before.before, layout-kept e, le-leb _ _ small),
       λ _.
           record {
@@ -121,20 +121,20 @@ returns-3 c =
           },
     )
 
-same-length-3 : tie.Need-same-length-3
+same-length-3 : tie.Need-shape_of-order-else-extent-le-MAX_COUNT
 same-length-3 c = search rules
 
-same-length-4 : tie.Need-same-length-4
+same-length-4 : tie.Need-shape_of-dims-else-extent-le-MAX_COUNT
 same-length-4 c = search rules
 
-returns-4 : tie.Need-returns-4
+returns-4 : tie.Need-returns-else-extent-le-MAX_COUNT
 returns-4 c =
     let o = c.before.before.before.before.before.before.before in
     let e = o.before.before.before.before.before.before.before in
-    (rw (shape-kept e.before.before, layout-kept e, lt-leb _ _ (over-cap _ _ (capped o) c.before.if3.false)) c.unmeasured3.ensures, never_done _ _ c.unmeasured3.ensures)
+    (rw (shape-kept e.before.before, layout-kept e, lt-leb _ _ (over-cap _ _ (capped o) c.if-extent-le-MAX_COUNT.false)) c.unmeasured-else-extent-le-MAX_COUNT.ensures, never_done _ _ c.unmeasured-else-extent-le-MAX_COUNT.ensures)
 
-pub measure-spec : {M : Type 1} → statement M
-measure-spec =
+pub measure_spec : {M : Type 1} → statement M
+measure_spec =
     tie.close
     (tie.spec
     good-shape-requires

@@ -9,20 +9,20 @@ use Rattle.map_builder.proofs.drafts.add_bound.Reads as reads
 use Rattle.map_builder.proofs.drafts.add_bound.Lts as lts
 use Rattle.map_builder.proofs.drafts.add_dimension.Reads as add-dimension-reads
 
-cast-add-dimension : tie.Need-overflow-cast-add-dimension
+cast-add-dimension : tie.Need-overflow_cast-low
 cast-add-dimension c = search rules
 
-cast-add-dimension-2 : tie.Need-overflow-cast-add-dimension-2
+cast-add-dimension-2 : tie.Need-overflow_cast-high
 cast-add-dimension-2 c = search rules
 
-add-dimension-requires : tie.Need-add-dimension-requires
+add-dimension-requires : tie.Need-add_dimension-requires
 add-dimension-requires c κs = search rules
 
 returns : tie.Need-returns
 returns c =
     let s = c.before in
-    c.add-dimension.ensures ∙ ap₂ (add_dimension s.args.d) (to_z-of_z (cast-add-dimension s)) (to_z-of_z (cast-add-dimension-2 s))
+    c.add_dimension.ensures ∙ ap₂ (add_dimension s.args.d) (to_z-of_z (cast-add-dimension s)) (to_z-of_z (cast-add-dimension-2 s))
 
-pub add-bound-spec : {M : Type 1} → statement M
-add-bound-spec =
+pub add_bound_spec : {M : Type 1} → statement M
+add_bound_spec =
     tie.close (tie.spec cast-add-dimension cast-add-dimension-2 add-dimension-requires returns)

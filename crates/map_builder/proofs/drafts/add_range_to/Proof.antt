@@ -10,16 +10,16 @@ use Rattle.map_builder.proofs.drafts.add_range_to.Reads as reads
 use Rattle.map_builder.proofs.drafts.add_range_to.Lts as lts
 use Rattle.map_builder.proofs.drafts.add_range.Reads as add-range-reads
 
-cast-add-range : tie.Need-overflow-cast-add-range
+cast-add-range : tie.Need-overflow_cast-high
 cast-add-range c = search rules
 
-add-range-requires : tie.Need-add-range-requires
+add-range-requires : tie.Need-add_range-requires
 add-range-requires c κs = search rules
 
 returns : tie.Need-returns
 returns c =
     let s = c.before in
-    c.add-range.ensures ∙ ap (add_range s.args.d (pos 0)) (to_z-of_z (cast-add-range s))
+    c.add_range.ensures ∙ ap (add_range s.args.d (pos 0)) (to_z-of_z (cast-add-range s))
 
-pub add-range-to-spec : {M : Type 1} → statement M
-add-range-to-spec = tie.close (tie.spec cast-add-range add-range-requires returns)
+pub add_range_to_spec : {M : Type 1} → statement M
+add_range_to_spec = tie.close (tie.spec cast-add-range add-range-requires returns)

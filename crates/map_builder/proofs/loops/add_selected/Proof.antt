@@ -14,75 +14,75 @@ use Rattle.map_builder.proofs.loops.add_selected.Reads as reads
 use Rattle.map_builder.proofs.loops.add_selected.Lts as lts
 use Rattle.map_builder.proofs.drafts.add_bound.Reads as add-bound-reads
 
-abbrev invariant-loop : tie.invariant-loop
+abbrev invariant-loop : tie.invariant-loop-i
 invariant-loop sizes list out₀ i₀ out i = (i ≤ length list) × (out ≡ steps (add_selected sizes list) i out₀)
 
-abbrev decreases-loop : tie.decreases-loop
+abbrev decreases-loop : tie.decreases-loop-i
 decreases-loop sizes list out₀ i₀ out i = length list - i
 
-loop-holds : tie.Need-loop-init invariant-loop decreases-loop
+loop-holds : tie.Need-loop-i-init invariant-loop decreases-loop
 loop-holds c =
     let s = c.before.before in
     (omega arith, steps-none (add_selected s.args.sizes.now s.args.list.now) s.args.d)
 
-mul-k : tie.Need-overflow-mul-k invariant-loop decreases-loop
+mul-k : tie.Need-offset_bounds-list-i invariant-loop decreases-loop
 mul-k c = search rules
 
-shared-slice-read-k : tie.Need-shared-slice-read-k invariant-loop decreases-loop
+shared-slice-read-k : tie.Need-bounds-list-i invariant-loop decreases-loop
 shared-slice-read-k c = search rules
 
-mul-add-bound : tie.Need-overflow-mul-add-bound invariant-loop decreases-loop
+mul-add-bound : tie.Need-offset_bounds-sizes-k invariant-loop decreases-loop
 mul-add-bound c =
     let t = c.before in
     let s = t.before.before.before.before in
-    search (rules, s.requires.inside t.before.loop.i t.loop-test.true)
+    search (rules, s.requires.inside t.loop-i.i t.loop-i-test.true)
 
-shared-slice-read-add-bound : tie.Need-shared-slice-read-add-bound invariant-loop decreases-loop
+shared-slice-read-add-bound : tie.Need-bounds-sizes-k invariant-loop decreases-loop
 shared-slice-read-add-bound c =
     let t = c.before.before in
     let s = t.before.before.before.before in
-    s.requires.inside t.before.loop.i t.loop-test.true
+    s.requires.inside t.loop-i.i t.loop-i-test.true
 
-sub-add-bound : tie.Need-overflow-sub-add-bound invariant-loop decreases-loop
+sub-add-bound : tie.Need-overflow_sub-sizes invariant-loop decreases-loop
 sub-add-bound c =
     let t = c.before.before in
     let s = t.before.before.before.before in
-    omega (arith, (sized-at s.args.sizes.now _ s.requires.sized (s.requires.inside t.before.loop.i t.loop-test.true)).0)
+    omega (arith, (sized-at s.args.sizes.now _ s.requires.sized (s.requires.inside t.loop-i.i t.loop-i-test.true)).0)
 
-add-bound-requires : tie.Need-add-bound-requires invariant-loop decreases-loop
+add-bound-requires : tie.Need-add_bound-out-requires invariant-loop decreases-loop
 add-bound-requires c κs =
     let t = c.before.before in
     let s = t.before.before.before.before in
     let ns = s.args.sizes.now in
     let l = s.args.list.now in
-    let g = steps-grow (add_selected ns l) (bounds-grow (λ (k : ℕ). up_to (get_or ns (get_or l k 0) 0))) t.before.loop.i s.args.d in
-    let e = t.before.loop.invariant.1 in
+    let g = steps-grow (add_selected ns l) (bounds-grow (λ (k : ℕ). up_to (get_or ns (get_or l k 0) 0))) t.loop-i.i s.args.d in
+    let e = t.loop-i.invariant.1 in
     record {
-      dims = omega (arith, ap (λ (u : Draft). u.map.dims) e, g.dims, s.requires.dims, t.loop-test.true);
+      dims = omega (arith, ap (λ (u : Draft). u.map.dims) e, g.dims, s.requires.dims, t.loop-i-test.true);
       small_low = omega arith;
-      small-high = omega (arith, (sized-at ns _ s.requires.sized (s.requires.inside t.before.loop.i t.loop-test.true)).1);
+      small-high = omega (arith, (sized-at ns _ s.requires.sized (s.requires.inside t.loop-i.i t.loop-i-test.true)).1);
     }
 
-add-i : tie.Need-overflow-add-i invariant-loop decreases-loop
+add-i : tie.Need-overflow_add-i invariant-loop decreases-loop
 add-i c = search rules
 
-loop-less : tie.Need-loop-smaller invariant-loop decreases-loop
+loop-less : tie.Need-loop-i-smaller invariant-loop decreases-loop
 loop-less c = search rules
 
-loop-again : tie.Need-loop-preserved invariant-loop decreases-loop
+loop-again : tie.Need-loop-i-preserved invariant-loop decreases-loop
 loop-again c =
     let t = c.before.before.before in
     let s = t.before.before.before.before in
-    (omega (arith, t.loop-test.true), steps_next (add_selected s.args.sizes.now s.args.list.now) t.before.loop.i s.args.d t.before.loop.out c.add-bound.result t.before.loop.invariant.1 c.add-bound.ensures)
+    (omega (arith, t.loop-i-test.true), steps_next (add_selected s.args.sizes.now s.args.list.now) t.loop-i.i s.args.d t.loop-i.out c.add_bound-out.result t.loop-i.invariant.1 c.add_bound-out.ensures)
 
 returns : tie.Need-returns invariant-loop decreases-loop
 returns c =
     let l = c.before in
     let s = l.before.before.before in
-    steps-end (add_selected s.args.sizes.now s.args.list.now) l.loop.i (length s.args.list.now) s.args.d l.loop.out l.loop.invariant.1 l.loop.invariant.0 c.loop-test.false
+    steps-end (add_selected s.args.sizes.now s.args.list.now) l.loop-i.i (length s.args.list.now) s.args.d l.loop-i.out l.loop-i.invariant.1 l.loop-i.invariant.0 c.loop-i-test.false
 
-pub add-selected-spec : {M : Type 1} → statement M
-add-selected-spec =
+pub add_selected_spec : {M : Type 1} → statement M
+add_selected_spec =
     tie.close
     (tie.spec
     invariant-loop

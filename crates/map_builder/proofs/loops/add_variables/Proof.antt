@@ -14,68 +14,68 @@ use Rattle.map_builder.proofs.loops.add_variables.Lts as lts
 use Rattle.map_builder.proofs.drafts.end_result.Reads as end-result-reads
 use Rattle.map_builder.proofs.trees.push_variable.Reads as push-variable-reads
 
-abbrev invariant-loop : tie.invariant-loop
+abbrev invariant-loop : tie.invariant-loop-i
 invariant-loop list out₀ i₀ out i = (i ≤ length list) × (out ≡ steps (add_variable list) i out₀)
 
-abbrev decreases-loop : tie.decreases-loop
+abbrev decreases-loop : tie.decreases-loop-i
 decreases-loop list out₀ i₀ out i = length list - i
 
-grown : (l : tie.At-loop invariant-loop decreases-loop) → Grows l.before.before.args.d (steps (add_variable l.before.before.args.list.now) l.loop.i l.before.before.args.d) l.loop.i
-grown l = steps-grow (add_variable l.before.before.args.list.now) (variable-grows l.before.before.args.list.now) l.loop.i l.before.before.args.d
+grown : (l : tie.At-loop-i invariant-loop decreases-loop) → Grows l.args.d (steps (add_variable l.args.list.now) l.loop-i.i l.args.d) l.loop-i.i
+grown l = steps-grow (add_variable l.args.list.now) (variable-grows l.args.list.now) l.loop-i.i l.args.d
 
-loop-holds : tie.Need-loop-init invariant-loop decreases-loop
+loop-holds : tie.Need-loop-i-init invariant-loop decreases-loop
 loop-holds c =
     let s = c.before in
     (omega arith, steps-none (add_variable s.args.list.now) s.args.d)
 
-mul-k : tie.Need-overflow-mul-k invariant-loop decreases-loop
+mul-k : tie.Need-offset_bounds-list-i invariant-loop decreases-loop
 mul-k c = search rules
 
-shared-slice-read-k : tie.Need-shared-slice-read-k invariant-loop decreases-loop
+shared-slice-read-k : tie.Need-bounds-list-i invariant-loop decreases-loop
 shared-slice-read-k c = search rules
 
-push-variable-requires : tie.Need-push-variable-requires invariant-loop decreases-loop
+push-variable-requires : tie.Need-push_variable-requires invariant-loop decreases-loop
 push-variable-requires c κs =
     let t = c.before in
     let l = t.before in
     let s = l.before.before in
     let g = grown l in
-    let e = l.loop.invariant.1 in
+    let e = l.loop-i.invariant.1 in
     record {
-      nodes = omega (arith, ap (λ (u : Draft). u.at) e, g.nodes, s.requires.nodes, t.loop-test.true);
+      nodes = omega (arith, ap (λ (u : Draft). u.at) e, g.nodes, s.requires.nodes, t.loop-i-test.true);
       under = omega (arith, ap (λ (u : Draft). u.under) e, g.under s.requires.under);
-      small = omega (arith, s.requires.inside l.loop.i t.loop-test.true);
+      small = omega (arith, s.requires.inside l.loop-i.i t.loop-i-test.true);
     }
 
-end-result-requires : tie.Need-end-result-requires invariant-loop decreases-loop
+end-result-requires : tie.Need-end_result-out-requires invariant-loop decreases-loop
 end-result-requires c κs =
     let t = c.before.before in
     let l = t.before in
     let s = l.before.before in
-    omega (arith, ap (λ (u : Draft). u.map.results) c.push-variable.ensures, ap (λ (u : Draft). u.map.results) l.loop.invariant.1, (grown l).results, s.requires.results, t.loop-test.true)
+    omega (arith, ap (λ (u : Draft). u.map.results) c.push_variable.ensures, ap (λ (u : Draft). u.map.results) l.loop-i.invariant.1, (grown l).results, s.requires.results, t.loop-i-test.true)
 
-add-i : tie.Need-overflow-add-i invariant-loop decreases-loop
+add-i : tie.Need-overflow_add-i invariant-loop decreases-loop
 add-i c = search rules
 
-loop-less : tie.Need-loop-smaller invariant-loop decreases-loop
+loop-less : tie.Need-loop-i-smaller invariant-loop decreases-loop
 loop-less c = search rules
 
-loop-again : tie.Need-loop-preserved invariant-loop decreases-loop
+loop-again : tie.Need-loop-i-preserved invariant-loop decreases-loop
 loop-again c =
     let p = c.before in
     let t = p.before.before in
     let l = t.before in
     let s = l.before.before in
-    (omega (arith, t.loop-test.true), steps_next (add_variable s.args.list.now) l.loop.i s.args.d l.loop.out c.end-result.result l.loop.invariant.1 (c.end-result.ensures ∙ ap end_result p.push-variable.ensures))
+    (omega (arith, t.loop-i-test.true), steps_next (add_variable s.args.list.now) l.loop-i.i s.args.d l.loop-i.out c.end_result-out.result l.loop-i.invariant.1 (c.end_result-out.ensures ∙ ap end_result p.push_variable.ensures))
 
 returns : tie.Need-returns invariant-loop decreases-loop
 returns c =
     let l = c.before in
     let s = l.before.before in
-    steps-end (add_variable s.args.list.now) l.loop.i (length s.args.list.now) s.args.d l.loop.out l.loop.invariant.1 l.loop.invariant.0 c.loop-test.false
+    steps-end (add_variable s.args.list.now) l.loop-i.i (length s.args.list.now) s.args.d l.loop-i.out l.loop-i.invariant.1 l.loop-i.invariant.0 c.loop-i-test.false
 
-pub add-variables-spec : {M : Type 1} → statement M
-add-variables-spec =
+pub add_variables_spec : {M : Type 1} → statement M
+add_variables_spec =
     tie.close
     (tie.spec
     invariant-loop

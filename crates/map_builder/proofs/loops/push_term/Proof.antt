@@ -14,47 +14,47 @@ use Rattle.map_builder.proofs.trees.push_product.Reads as push-product-reads
 use Rattle.map_builder.proofs.trees.push_sum.Reads as push-sum-reads
 use Rattle.map_builder.proofs.trees.push_variable.Reads as push-variable-reads
 
-push-variable-requires : tie.Need-push-variable-requires
+push-variable-requires : tie.Need-push_variable-v-requires
 push-variable-requires c κs = search rules
 
 natural-requires : tie.Need-natural-requires
 natural-requires c κs = search rules
 
-push-product-requires : tie.Need-push-product-requires
+push-product-requires : tie.Need-push_product-p-requires
 push-product-requires c κs =
     let v = c.before in
     let s = v.before in
-    let g = pushed-grown s.args.d v.push-variable.result _ _ v.push-variable.ensures in
+    let g = pushed-grown s.args.d v.push_variable-v.result _ _ v.push_variable-v.ensures in
     record { nodes = omega (arith, g.nodes, s.requires.nodes); under = g.under s.requires.under }
 
-returns : tie.Need-returns
+returns : tie.Need-returns-then-k-eq0
 returns c =
     let p = c.before in
     let n = p.before in
     let v = n.before in
     let s = v.before in
-    term-first s.args.d v.push-variable.result p.push-product.result s.args.k s.args.factor _ v.push-variable.ensures p.push-product.ensures (to_z-of_z (sfits_of n.natural.type-inv) ∙ n.natural.ensures) c.if1.true
+    term-first s.args.d v.push_variable-v.result p.push_product-p.result s.args.k s.args.factor _ v.push_variable-v.ensures p.push_product-p.ensures (to_z-of_z (sfits_of n.natural.type_inv) ∙ n.natural.ensures) c.if-k-eq0.true
 
-push-sum-requires : tie.Need-push-sum-requires
+push-sum-requires : tie.Need-push_sum-requires
 push-sum-requires c κs =
     let p = c.before in
     let v = p.before.before in
     let s = v.before in
-    let a = pushed-grown s.args.d v.push-variable.result _ _ v.push-variable.ensures in
-    let g = grown-then s.args.d v.push-variable.result p.push-product.result 1 1 a (pushed-grown v.push-variable.result p.push-product.result _ _ p.push-product.ensures) in
+    let a = pushed-grown s.args.d v.push_variable-v.result _ _ v.push_variable-v.ensures in
+    let g = grown-then s.args.d v.push_variable-v.result p.push_product-p.result 1 1 a (pushed-grown v.push_variable-v.result p.push_product-p.result _ _ p.push_product-p.ensures) in
     record { nodes = omega (arith, g.nodes, s.requires.nodes); under = g.under s.requires.under }
 
-returns-2 : tie.Need-returns-2
+returns-2 : tie.Need-returns
 returns-2 c =
     let i = c.before in
     let p = i.before in
     let n = p.before in
     let v = n.before in
     let s = v.before in
-    term-next s.args.d v.push-variable.result p.push-product.result s.args.k s.args.factor _ v.push-variable.ensures p.push-product.ensures (to_z-of_z (sfits_of n.natural.type-inv) ∙ n.natural.ensures) i.if1.false c.push-sum.result c.push-sum.ensures
+    term-next s.args.d v.push_variable-v.result p.push_product-p.result s.args.k s.args.factor _ v.push_variable-v.ensures p.push_product-p.ensures (to_z-of_z (sfits_of n.natural.type_inv) ∙ n.natural.ensures) i.if-k-eq0.false c.push_sum.result c.push_sum.ensures
 
-pub push-term-spec : {M : Type 1} → statement M
-push-term-spec =
+pub push_term_spec : {M : Type 1} → statement M
+push_term_spec =
     tie.close
     (tie.spec
     push-variable-requires

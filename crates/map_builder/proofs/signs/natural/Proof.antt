@@ -6,11 +6,11 @@ use Rattle.map_builder.proofs.signs.natural.Tie as tie
 use Rattle.map_builder.proofs.signs.natural.Reads as reads
 use Rattle.map_builder.proofs.signs.natural.Lts as lts
 
-cast-result : tie.Need-overflow-cast-result
+cast-result : tie.Need-overflow_cast-result
 cast-result c = search rules
 
 returns : tie.Need-returns
 returns c = to_z-of_z (cast-result c)
 
-pub natural-spec : {M : Type 1} → statement M
-natural-spec = tie.close (tie.spec cast-result returns)
+pub natural_spec : {M : Type 1} → statement M
+natural_spec = tie.close (tie.spec cast-result returns)

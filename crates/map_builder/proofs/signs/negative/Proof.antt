@@ -20,14 +20,14 @@ below (suc n) h = record { sfits = omega arith }
 minus : (v : ℕ) (z : ℤ) → z ≡ pos v → pos 0 -ℤ z ≡ neg_ℤ (pos v)
 minus v z e = ap (λ (z : ℤ). pos 0 -ℤ z) e ∙ +ℤ_idl (neg_ℤ (pos v))
 
-cast-result : tie.Need-overflow-cast-result
+cast-result : tie.Need-overflow_cast-result
 cast-result c = search rules
 
-sub-result : tie.Need-overflow-sub-result
+sub-result : tie.Need-overflow_sub-result
 sub-result c = subst (SFits w64) (sym (minus c.args.value _ (to_z-of_z (cast-result c)))) (below c.args.value c.requires)
 
 returns : tie.Need-returns
 returns c = to_z-of_z (sub-result c) ∙ minus c.args.value _ (to_z-of_z (cast-result c))
 
-pub negative-spec : {M : Type 1} → statement M
-negative-spec = tie.close (tie.spec cast-result sub-result returns)
+pub negative_spec : {M : Type 1} → statement M
+negative_spec = tie.close (tie.spec cast-result sub-result returns)

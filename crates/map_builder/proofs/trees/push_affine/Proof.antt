@@ -14,31 +14,31 @@ use Rattle.map_builder.proofs.trees.push_product.Reads as push-product-reads
 use Rattle.map_builder.proofs.trees.push_sum.Reads as push-sum-reads
 use Rattle.map_builder.proofs.trees.push_variable.Reads as push-variable-reads
 
-push-variable-requires : tie.Need-push-variable-requires
+push-variable-requires : tie.Need-push_variable-x-requires
 push-variable-requires c κs = search rules
 
-push-product-requires : tie.Need-push-product-requires
+push-product-requires : tie.Need-push_product-y-requires
 push-product-requires c κs =
     let s = c.before in
-    let g = pushed-grown s.args.d c.push-variable.result _ _ c.push-variable.ensures in
+    let g = pushed-grown s.args.d c.push_variable-x.result _ _ c.push_variable-x.ensures in
     record { nodes = omega (arith, g.nodes, s.requires.nodes); under = g.under s.requires.under }
 
-push-constant-requires : tie.Need-push-constant-requires
+push-constant-requires : tie.Need-push_constant-z-requires
 push-constant-requires c κs =
     let m = c.before in
     let s = m.before in
-    let a = pushed-grown s.args.d m.push-variable.result _ _ m.push-variable.ensures in
-    let g = grown-then s.args.d m.push-variable.result c.push-product.result 1 1 a (pushed-grown m.push-variable.result c.push-product.result _ _ c.push-product.ensures) in
+    let a = pushed-grown s.args.d m.push_variable-x.result _ _ m.push_variable-x.ensures in
+    let g = grown-then s.args.d m.push_variable-x.result c.push_product-y.result 1 1 a (pushed-grown m.push_variable-x.result c.push_product-y.result _ _ c.push_product-y.ensures) in
     record { nodes = omega (arith, g.nodes, s.requires.nodes); under = g.under s.requires.under }
 
-push-sum-requires : tie.Need-push-sum-requires
+push-sum-requires : tie.Need-push_sum-requires
 push-sum-requires c κs =
     let n = c.before in
     let m = n.before in
     let s = m.before in
-    let a = pushed-grown s.args.d m.push-variable.result _ _ m.push-variable.ensures in
-    let b = grown-then s.args.d m.push-variable.result n.push-product.result 1 1 a (pushed-grown m.push-variable.result n.push-product.result _ _ n.push-product.ensures) in
-    let g = grown-then s.args.d n.push-product.result c.push-constant.result 2 1 b (pushed-grown n.push-product.result c.push-constant.result _ _ c.push-constant.ensures) in
+    let a = pushed-grown s.args.d m.push_variable-x.result _ _ m.push_variable-x.ensures in
+    let b = grown-then s.args.d m.push_variable-x.result n.push_product-y.result 1 1 a (pushed-grown m.push_variable-x.result n.push_product-y.result _ _ n.push_product-y.ensures) in
+    let g = grown-then s.args.d n.push_product-y.result c.push_constant-z.result 2 1 b (pushed-grown n.push_product-y.result c.push_constant-z.result _ _ c.push_constant-z.ensures) in
     record { nodes = omega (arith, g.nodes, s.requires.nodes); under = g.under s.requires.under }
 
 returns : tie.Need-returns
@@ -47,10 +47,10 @@ returns c =
     let n = o.before in
     let m = n.before in
     let s = m.before in
-    c.push-sum.ensures ∙ ap push_sum (o.push-constant.ensures ∙ ap₂ push_constant (n.push-product.ensures ∙ ap₂ push_product m.push-variable.ensures (to_z-of_z s.ranges.factor)) (to_z-of_z s.ranges.by))
+    c.push_sum.ensures ∙ ap push_sum (o.push_constant-z.ensures ∙ ap₂ push_constant (n.push_product-y.ensures ∙ ap₂ push_product m.push_variable-x.ensures (to_z-of_z s.ranges.factor)) (to_z-of_z s.ranges.by))
 
-pub push-affine-spec : {M : Type 1} → statement M
-push-affine-spec =
+pub push_affine_spec : {M : Type 1} → statement M
+push_affine_spec =
     tie.close
     (tie.spec
     push-variable-requires

@@ -9,16 +9,16 @@ use Rattle.map_builder.proofs.trees.push_mod.Reads as reads
 use Rattle.map_builder.proofs.trees.push_mod.Lts as lts
 use Rattle.map_builder.proofs.drafts.push_node.Reads as push-node-reads
 
-cast-push-node : tie.Need-overflow-cast-push-node
+cast-push-node : tie.Need-overflow_cast-divisor
 cast-push-node c = search rules
 
-push-node-requires : tie.Need-push-node-requires
+push-node-requires : tie.Need-push_node-requires
 push-node-requires c κs = search rules
 
 returns : tie.Need-returns
 returns c =
     let s = c.before in
-    c.push-node.ensures ∙ ap (push_node s.args.d 5) (to_z-of_z (cast-push-node s))
+    c.push_node.ensures ∙ ap (push_node s.args.d 5) (to_z-of_z (cast-push-node s))
 
-pub push-mod-spec : {M : Type 1} → statement M
-push-mod-spec = tie.close (tie.spec cast-push-node push-node-requires returns)
+pub push_mod_spec : {M : Type 1} → statement M
+push_mod_spec = tie.close (tie.spec cast-push-node push-node-requires returns)

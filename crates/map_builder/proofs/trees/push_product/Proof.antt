@@ -9,13 +9,13 @@ use Rattle.map_builder.proofs.trees.push_product.Reads as reads
 use Rattle.map_builder.proofs.trees.push_product.Lts as lts
 use Rattle.map_builder.proofs.drafts.push_node.Reads as push-node-reads
 
-push-node-requires : tie.Need-push-node-requires
+push-node-requires : tie.Need-push_node-requires
 push-node-requires c κs = search rules
 
 returns : tie.Need-returns
 returns c =
     let s = c.before in
-    c.push-node.ensures ∙ ap (push_product s.args.d) (to_z-of_z s.ranges.factor)
+    c.push_node.ensures ∙ ap (push_product s.args.d) (to_z-of_z s.ranges.factor)
 
-pub push-product-spec : {M : Type 1} → statement M
-push-product-spec = tie.close (tie.spec push-node-requires returns)
+pub push_product_spec : {M : Type 1} → statement M
+push_product_spec = tie.close (tie.spec push-node-requires returns)

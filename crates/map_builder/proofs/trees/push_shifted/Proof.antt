@@ -13,29 +13,29 @@ use Rattle.map_builder.proofs.trees.push_constant.Reads as push-constant-reads
 use Rattle.map_builder.proofs.trees.push_sum.Reads as push-sum-reads
 use Rattle.map_builder.proofs.trees.push_variable.Reads as push-variable-reads
 
-push-variable-requires : tie.Need-push-variable-requires
+push-variable-requires : tie.Need-push_variable-x-requires
 push-variable-requires c κs = search rules
 
-push-constant-requires : tie.Need-push-constant-requires
+push-constant-requires : tie.Need-push_constant-y-requires
 push-constant-requires c κs =
     let s = c.before in
-    let g = pushed-grown s.args.d c.push-variable.result _ _ c.push-variable.ensures in
+    let g = pushed-grown s.args.d c.push_variable-x.result _ _ c.push_variable-x.ensures in
     record { nodes = omega (arith, g.nodes, s.requires.nodes); under = g.under s.requires.under }
 
-push-sum-requires : tie.Need-push-sum-requires
+push-sum-requires : tie.Need-push_sum-requires
 push-sum-requires c κs =
     let m = c.before in
     let s = m.before in
-    let a = pushed-grown s.args.d m.push-variable.result _ _ m.push-variable.ensures in
-    let g = grown-then s.args.d m.push-variable.result c.push-constant.result 1 1 a (pushed-grown m.push-variable.result c.push-constant.result _ _ c.push-constant.ensures) in
+    let a = pushed-grown s.args.d m.push_variable-x.result _ _ m.push_variable-x.ensures in
+    let g = grown-then s.args.d m.push_variable-x.result c.push_constant-y.result 1 1 a (pushed-grown m.push_variable-x.result c.push_constant-y.result _ _ c.push_constant-y.ensures) in
     record { nodes = omega (arith, g.nodes, s.requires.nodes); under = g.under s.requires.under }
 
 returns : tie.Need-returns
 returns c =
     let n = c.before in
     let m = n.before in
-    c.push-sum.ensures ∙ ap push_sum (n.push-constant.ensures ∙ ap₂ push_constant m.push-variable.ensures (to_z-of_z m.before.ranges.by))
+    c.push_sum.ensures ∙ ap push_sum (n.push_constant-y.ensures ∙ ap₂ push_constant m.push_variable-x.ensures (to_z-of_z m.ranges.by))
 
-pub push-shifted-spec : {M : Type 1} → statement M
-push-shifted-spec =
+pub push_shifted_spec : {M : Type 1} → statement M
+push_shifted_spec =
     tie.close (tie.spec push-variable-requires push-constant-requires push-sum-requires returns)

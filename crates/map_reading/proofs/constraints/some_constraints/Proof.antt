@@ -6,62 +6,62 @@ use lib.ListN.{length}
 use Rattle.map_reading.proofs.constraints.some_constraints.Statement.{statement}
 use Rattle.map_reading.proofs.constraints.some_constraints.Tie as tie
 
-abbrev invariant-loop : tie.invariant-loop
+abbrev invariant-loop : tie.invariant-loop-left
 invariant-loop line pending₀ kinds₀ values₀ read₀ left₀ pending kinds values read left = (length pending ≡ length pending₀) × (length kinds ≡ length kinds₀) × (length values ≡ length values₀)
 
-abbrev decreases-loop : tie.decreases-loop
+abbrev decreases-loop : tie.decreases-loop-left
 decreases-loop line pending₀ kinds₀ values₀ read₀ left₀ pending kinds values read left = left
 
-with-constraint-requires : tie.Need-with-constraint-requires invariant-loop decreases-loop
+with-constraint-requires : tie.Need-with_constraint-read-requires invariant-loop decreases-loop
 with-constraint-requires c κs = search rules
 
-loop-holds : tie.Need-loop-init invariant-loop decreases-loop
+loop-holds : tie.Need-loop-left-init invariant-loop decreases-loop
 loop-holds c = search rules
 
-is-next-requires : tie.Need-is-next-requires invariant-loop decreases-loop
+is-next-requires : tie.Need-is_next-requires invariant-loop decreases-loop
 is-next-requires c κs = search rules
 
-expect-requires : tie.Need-expect-requires invariant-loop decreases-loop
+expect-requires : tie.Need-expect-from-requires invariant-loop decreases-loop
 expect-requires c κs = search rules
 
-with-constraint-requires-2 : tie.Need-with-constraint-requires-2 invariant-loop decreases-loop
+with-constraint-requires-2 : tie.Need-with_constraint-read-requires-in-loop-left invariant-loop decreases-loop
 with-constraint-requires-2 c κs = search rules
 
-sub-left : tie.Need-overflow-sub-left invariant-loop decreases-loop
+sub-left : tie.Need-overflow_sub-left invariant-loop decreases-loop
 sub-left c = search rules
 
-loop-less : tie.Need-loop-smaller invariant-loop decreases-loop
+loop-less : tie.Need-loop-left-smaller invariant-loop decreases-loop
 loop-less c = search rules
 
-loop-again : tie.Need-loop-preserved invariant-loop decreases-loop
+loop-again : tie.Need-loop-left-preserved invariant-loop decreases-loop
 loop-again c = search rules
 
-same_length : tie.Need-same-length invariant-loop decreases-loop
+same_length : tie.Need-shape_of-pending-else-is_next invariant-loop decreases-loop
 same_length c = search rules
 
-same-length-2 : tie.Need-same-length-2 invariant-loop decreases-loop
+same-length-2 : tie.Need-shape_of-kinds-else-is_next invariant-loop decreases-loop
 same-length-2 c = search rules
 
-same-length-3 : tie.Need-same-length-3 invariant-loop decreases-loop
+same-length-3 : tie.Need-shape_of-values-else-is_next invariant-loop decreases-loop
 same-length-3 c = search rules
 
-returns : tie.Need-returns invariant-loop decreases-loop
+returns : tie.Need-returns-else-is_next invariant-loop decreases-loop
 returns c = search rules
 
-same-length-4 : tie.Need-same-length-4 invariant-loop decreases-loop
+same-length-4 : tie.Need-shape_of-pending-after-loop-left invariant-loop decreases-loop
 same-length-4 c = search rules
 
-same-length-5 : tie.Need-same-length-5 invariant-loop decreases-loop
+same-length-5 : tie.Need-shape_of-kinds-after-loop-left invariant-loop decreases-loop
 same-length-5 c = search rules
 
-same-length-6 : tie.Need-same-length-6 invariant-loop decreases-loop
+same-length-6 : tie.Need-shape_of-values-after-loop-left invariant-loop decreases-loop
 same-length-6 c = search rules
 
-returns-2 : tie.Need-returns-2 invariant-loop decreases-loop
+returns-2 : tie.Need-returns-after-loop-left invariant-loop decreases-loop
 returns-2 c = search rules
 
-pub some-constraints-spec : {M : Type 1} → statement M
-some-constraints-spec =
+pub some_constraints_spec : {M : Type 1} → statement M
+some_constraints_spec =
     tie.close
     (tie.spec
     invariant-loop

@@ -6,59 +6,59 @@ use lib.ListN.{length}
 use Rattle.map_reading.proofs.expression.read_expression.Statement.{statement}
 use Rattle.map_reading.proofs.expression.read_expression.Tie as tie
 
-abbrev invariant-loop : tie.invariant-loop
+abbrev invariant-loop : tie.invariant-loop-left
 invariant-loop line place pending₀ kinds₀ values₀ e₀ left₀ pending kinds values e left = (length pending ≡ length pending₀) × (length kinds ≡ length kinds₀) × (length values ≡ length values₀)
 
-abbrev decreases-loop : tie.decreases-loop
+abbrev decreases-loop : tie.decreases-loop-left
 decreases-loop line place pending₀ kinds₀ values₀ e₀ left₀ pending kinds values e left = left
 
-one-more-requires : tie.Need-one-more-requires invariant-loop decreases-loop
+one-more-requires : tie.Need-one_more-left-requires invariant-loop decreases-loop
 one-more-requires c κs = search rules
 
-loop-holds : tie.Need-loop-init invariant-loop decreases-loop
+loop-holds : tie.Need-loop-left-init invariant-loop decreases-loop
 loop-holds c = search rules
 
-goes-on-requires : tie.Need-goes-on-requires invariant-loop decreases-loop
+goes-on-requires : tie.Need-goes_on-requires invariant-loop decreases-loop
 goes-on-requires c κs = search rules
 
-read-token-requires : tie.Need-read-token-requires invariant-loop decreases-loop
+read-token-requires : tie.Need-read_token-e-requires invariant-loop decreases-loop
 read-token-requires c κs = search rules
 
-sub-left : tie.Need-overflow-sub-left invariant-loop decreases-loop
+sub-left : tie.Need-overflow_sub-left invariant-loop decreases-loop
 sub-left c = search rules
 
-loop-less : tie.Need-loop-smaller invariant-loop decreases-loop
+loop-less : tie.Need-loop-left-smaller invariant-loop decreases-loop
 loop-less c = search rules
 
-loop-again : tie.Need-loop-preserved invariant-loop decreases-loop
+loop-again : tie.Need-loop-left-preserved invariant-loop decreases-loop
 loop-again c = search rules
 
-same_length : tie.Need-same-length invariant-loop decreases-loop
+same_length : tie.Need-shape_of-pending-else-goes_on invariant-loop decreases-loop
 same_length c = search rules
 
-same-length-2 : tie.Need-same-length-2 invariant-loop decreases-loop
+same-length-2 : tie.Need-shape_of-kinds-else-goes_on invariant-loop decreases-loop
 same-length-2 c = search rules
 
-same-length-3 : tie.Need-same-length-3 invariant-loop decreases-loop
+same-length-3 : tie.Need-shape_of-values-else-goes_on invariant-loop decreases-loop
 same-length-3 c = search rules
 
-returns : tie.Need-returns invariant-loop decreases-loop
+returns : tie.Need-returns-else-goes_on invariant-loop decreases-loop
 returns c = search rules
 
-same-length-4 : tie.Need-same-length-4 invariant-loop decreases-loop
+same-length-4 : tie.Need-shape_of-pending-after-loop-left invariant-loop decreases-loop
 same-length-4 c = search rules
 
-same-length-5 : tie.Need-same-length-5 invariant-loop decreases-loop
+same-length-5 : tie.Need-shape_of-kinds-after-loop-left invariant-loop decreases-loop
 same-length-5 c = search rules
 
-same-length-6 : tie.Need-same-length-6 invariant-loop decreases-loop
+same-length-6 : tie.Need-shape_of-values-after-loop-left invariant-loop decreases-loop
 same-length-6 c = search rules
 
-returns-2 : tie.Need-returns-2 invariant-loop decreases-loop
+returns-2 : tie.Need-returns-after-loop-left invariant-loop decreases-loop
 returns-2 c = search rules
 
-pub read-expression-spec : {M : Type 1} → statement M
-read-expression-spec =
+pub read_expression_spec : {M : Type 1} → statement M
+read_expression_spec =
     tie.close
     (tie.spec
     invariant-loop

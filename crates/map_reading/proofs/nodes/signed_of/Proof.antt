@@ -22,22 +22,22 @@ fits : (m : ℕ) → m < 2 ^ 63 → SFits w64 (neg_ℤ (pos m))
 fits zero h = record { sfits = omega arith }
 fits (suc n) h = record { sfits = omega arith }
 
-returns : tie.Need-returns
+returns : tie.Need-returns-then-magnitude-gt9223372036854775807
 returns c = search rules
 
-cast-z : tie.Need-overflow-cast-z
+cast-z : tie.Need-overflow_cast-z
 cast-z c = search rules
 
-sub-result : tie.Need-overflow-sub-result
+sub-result : tie.Need-overflow_sub-result
 sub-result c =
-    let h : c.before.before.args.magnitude < 2 ^ 63 = omega arith in
+    let h : c.args.magnitude < 2 ^ 63 = omega arith in
     subst⁻¹ (SFits w64) (opposite _ h) (fits _ h)
 
-returns-2 : tie.Need-returns-2
+returns-2 : tie.Need-returns-then-negative
 returns-2 c = search rules
 
-returns-3 : tie.Need-returns-3
+returns-3 : tie.Need-returns-else-negative
 returns-3 c = search rules
 
-pub signed-of-spec : {M : Type 1} → statement M
-signed-of-spec = tie.close (tie.spec returns cast-z sub-result returns-2 returns-3)
+pub signed_of_spec : {M : Type 1} → statement M
+signed_of_spec = tie.close (tie.spec returns cast-z sub-result returns-2 returns-3)

@@ -9,66 +9,66 @@ use Rattle.offset_table.proofs.Rules.{question-few}
 use Rattle.offset_table.proofs.listed.judge_question.Statement.{statement}
 use Rattle.offset_table.proofs.listed.judge_question.Tie as tie
 
-good-shape-requires : tie.Need-good-shape-requires
+good-shape-requires : tie.Need-good_shape-requires
 good-shape-requires c κs = search rules
 
-returns : tie.Need-returns
-returns c = rw (sym c.before.good-shape.ensures ∙ not-true c.before.good-shape.result c.if1.true)
+returns : tie.Need-returns-then-not-good_shape
+returns c = rw (sym c.good_shape.ensures ∙ not-true c.good_shape.result c.if-not-good_shape.true-raw)
 
-shape-kept : (c : tie.Else1) → good_shape c.before.before.before.args.shape ≡ true
-shape-kept c = sym c.before.good-shape.ensures ∙ not-false c.before.good-shape.result c.if1.false
+shape-kept : (c : tie.Else-not-good_shape) → good_shape c.args.shape ≡ true
+shape-kept c = sym c.good_shape.ensures ∙ not-false c.good_shape.result c.if-not-good_shape.false-raw
 
-good-question-requires : tie.Need-good-question-requires
+good-question-requires : tie.Need-good_question-requires
 good-question-requires c κs = shape-kept c
 
-returns-2 : tie.Need-returns-2
-returns-2 c = rw (shape-kept c.before.before, sym c.before.good-question.ensures ∙ not-true c.before.good-question.result c.if2.true)
+returns-2 : tie.Need-returns-then-not-good_question
+returns-2 c = rw (shape-kept c.before.before, sym c.good_question.ensures ∙ not-true c.good_question.result c.if-not-good_question.true-raw)
 
-abbrev start : tie.Else2 → tie.Start
+abbrev start : tie.Else-not-good_question → tie.Start
 start c = c.before.before.before.before.before
 
-asks : (c : tie.Else2) → good_question (start c).args.shape (start c).args.table.now (start c).args.padded (start c).args.count ≡ true
-asks c = sym c.before.good-question.ensures ∙ not-false c.before.good-question.result c.if2.false
+asks : (c : tie.Else-not-good_question) → good_question (start c).args.shape (start c).args.table.now (start c).args.padded (start c).args.count ≡ true
+asks c = sym c.good_question.ensures ∙ not-false c.good_question.result c.if-not-good_question.false-raw
 
-layouts-kept-requires : tie.Need-layouts-kept-requires
+layouts-kept-requires : tie.Need-layouts_kept-requires
 layouts-kept-requires c κs = question-few _ _ _ _ (asks c)
 
-returns-3 : tie.Need-returns-3
+returns-3 : tie.Need-returns-then-not-layouts_kept
 returns-3 c =
     let q = c.before.before in
-    rw (shape-kept q.before.before, asks q, sym c.before.layouts-kept.ensures ∙ not-true c.before.layouts-kept.result c.if3.true)
+    rw (shape-kept q.before.before, asks q, sym c.layouts_kept.ensures ∙ not-true c.layouts_kept.result c.if-not-layouts_kept.true-raw)
 
-layouts-good : (c : tie.Else3) → layouts_kept (start c.before.before).args.shape (start c.before.before).args.layouts (start c.before.before).args.count ≡ true
-layouts-good c = sym c.before.layouts-kept.ensures ∙ not-false c.before.layouts-kept.result c.if3.false
+layouts-good : (c : tie.Else-not-layouts_kept) → layouts_kept (start c.before.before).args.shape (start c.before.before).args.layouts (start c.before.before).args.count ≡ true
+layouts-good c = sym c.layouts_kept.ensures ∙ not-false c.layouts_kept.result c.if-not-layouts_kept.false-raw
 
-returns-4 : tie.Need-returns-4
+returns-4 : tie.Need-returns-then-padded-gt-MAX_COUNT
 returns-4 c =
     let l = c.before in
     let q = l.before.before in
-    rw (shape-kept q.before.before, asks q, layouts-good l, lt-leb _ _ c.if4.true)
+    rw (shape-kept q.before.before, asks q, layouts-good l, lt-leb _ _ c.if-padded-gt-MAX_COUNT.true)
 
-sizes-kept-requires : tie.Need-sizes-kept-requires
+sizes-kept-requires : tie.Need-sizes_kept-requires
 sizes-kept-requires c κs =
     let l = c.before in
     let q = l.before.before in
     (question-few _ _ _ _ (asks q), shape-kept q.before.before, layouts-good l)
 
-returns-5 : tie.Need-returns-5
+returns-5 : tie.Need-returns-then-sizes_kept
 returns-5 c =
     let p = c.before.before in
     let l = p.before in
     let q = l.before.before in
-    rw (shape-kept q.before.before, asks q, layouts-good l, le-leb _ _ p.if4.false, sym c.before.sizes-kept.ensures ∙ c.if5.true)
+    rw (shape-kept q.before.before, asks q, layouts-good l, le-leb _ _ p.if-padded-gt-MAX_COUNT.false, sym c.sizes_kept.ensures ∙ c.if-sizes_kept.true)
 
-returns-6 : tie.Need-returns-6
+returns-6 : tie.Need-returns-else-sizes_kept
 returns-6 c =
     let p = c.before.before in
     let l = p.before in
     let q = l.before.before in
-    rw (shape-kept q.before.before, asks q, layouts-good l, le-leb _ _ p.if4.false, sym c.before.sizes-kept.ensures ∙ c.if5.false)
+    rw (shape-kept q.before.before, asks q, layouts-good l, le-leb _ _ p.if-padded-gt-MAX_COUNT.false, sym c.sizes_kept.ensures ∙ c.if-sizes_kept.false)
 
-pub judge-question-spec : {M : Type 1} → statement M
-judge-question-spec =
+pub judge_question_spec : {M : Type 1} → statement M
+judge_question_spec =
     tie.close
     (tie.spec
     good-shape-requires

@@ -12,38 +12,38 @@ use Rattle.offset_table.proofs.Naming.{named-found, named-missed, named-refused}
 use Rattle.offset_table.proofs.listed.layout_of_table.Statement.{statement}
 use Rattle.offset_table.proofs.listed.layout_of_table.Tie as tie
 
-judge-question-requires : tie.Need-judge-question-requires
+judge-question-requires : tie.Need-judge_question-requires
 judge-question-requires c κs = search rules
 
-enum_told : tie.Need-enum-told
+enum_told : tie.Need-enum_told-1
 enum_told c = search rules
 
 -- the question breaks no rule
-abbrev start : tie.After-enum-told → tie.Start
-start c = c.before.before.before.before
+abbrev start : tie.In-Done → tie.Start
+start c = c.before.before.before
 
-judged : (c : tie.After-enum-told) → judge (question_rules (start c).args.shape (start c).args.table.now (start c).args.padded (start c).args.layouts (start c).args.count) ≡ Done
-judged c = sym c.before.before.judge-question.ensures ∙ c.enum_told.given.1
+judged : (c : tie.In-Done) → judge (question_rules (start c).args.shape (start c).args.table.now (start c).args.padded (start c).args.layouts (start c).args.count) ≡ Done
+judged c = sym c.judge_question.ensures ∙ c.in-Done.is
 
-first-maker-requires : tie.Need-first-maker-requires
+first-maker-requires : tie.Need-first_maker-i-requires
 first-maker-requires c κs = judged c
 
-enum-known-r : tie.Need-enum-known-r
+enum-known-r : tie.Need-enum_known-r
 enum-known-r c = search rules
 
-returns : tie.Need-returns
+returns : tie.Need-returns-then-i-count
 returns c =
-    let m = c.before.first-maker.ensures in
-    ap (λ (n : ℕ). done (n ∷ [])) m ∙ sym (named-found _ _ _ _ _ (judged c.before.before) (omega (arith, m, c.if1.true)))
+    let m = c.first_maker-i.ensures in
+    ap (λ (n : ℕ). done (n ∷ [])) m ∙ sym (named-found _ _ _ _ _ (judged c.before.before) (omega (arith, m, c.if-i-count.true)))
 
-returns-2 : tie.Need-returns-2
-returns-2 c = sym (named-missed _ _ _ _ _ (judged c.before.before) (omega (arith, c.before.first-maker.ensures, c.if1.false)))
+returns-2 : tie.Need-returns-else-i-count
+returns-2 c = sym (named-missed _ _ _ _ _ (judged c.before.before) (omega (arith, c.first_maker-i.ensures, c.if-i-count.false)))
 
-returns-3 : tie.Need-returns-3
-returns-3 c = sym (named-refused _ _ _ _ _ _ (sym c.before.before.before.judge-question.ensures ∙ c.before.r.given.1))
+returns-3 : tie.Need-returns-in-Refused
+returns-3 c = sym (named-refused _ _ _ _ _ _ (sym c.judge_question.ensures ∙ c.in-Refused.is))
 
-pub layout-of-table-spec : {M : Type 1} → statement M
-layout-of-table-spec =
+pub layout_of_table_spec : {M : Type 1} → statement M
+layout_of_table_spec =
     tie.close
     (tie.spec
     judge-question-requires

@@ -12,47 +12,47 @@ use Rattle.offset_table.specs.Answers.{layouts_kept}
 use Rattle.offset_table.proofs.listed.layouts_kept.Statement.{statement}
 use Rattle.offset_table.proofs.listed.layouts_kept.Tie as tie
 
-abbrev invariant-loop : tie.invariant-loop
+abbrev invariant-loop : tie.invariant-loop-i
 invariant-loop count layouts rank i₀ i = (i ≤ count) × ((k : ℕ) → k < i → good_layout rank (layout_at layouts k) ≡ true)
 
-abbrev decreases-loop : tie.decreases-loop
+abbrev decreases-loop : tie.decreases-loop-i
 decreases-loop count layouts rank i₀ i = count - i
 
-loop-holds : tie.Need-loop-init invariant-loop decreases-loop
+loop-holds : tie.Need-loop-i-init invariant-loop decreases-loop
 loop-holds c = (omega arith, below_none _)
 
-mul-good-layout : tie.Need-overflow-mul-good-layout invariant-loop decreases-loop
+mul-good-layout : tie.Need-offset_bounds-layouts-i invariant-loop decreases-loop
 mul-good-layout c = search rules
 
-array-copy-out-good-layout : tie.Need-array-copy-out-good-layout invariant-loop decreases-loop
+array-copy-out-good-layout : tie.Need-bounds-layouts-i invariant-loop decreases-loop
 array-copy-out-good-layout c = search rules
 
-good-layout-requires : tie.Need-good-layout-requires invariant-loop decreases-loop
+good-layout-requires : tie.Need-good_layout-requires invariant-loop decreases-loop
 good-layout-requires c κs = search rules
 
-add-i : tie.Need-overflow-add-i invariant-loop decreases-loop
+add-i : tie.Need-overflow_add-i invariant-loop decreases-loop
 add-i c = search rules
 
-loop-less : tie.Need-loop-smaller invariant-loop decreases-loop
+loop-less : tie.Need-loop-i-smaller invariant-loop decreases-loop
 loop-less c = search rules
 
-loop-again : tie.Need-loop-preserved invariant-loop decreases-loop
-loop-again c = (omega arith, below_more _ _ c.before.before.before.before.loop.invariant.1 (sym c.before.good-layout.ensures ∙ c.if1.true))
+loop-again : tie.Need-loop-i-preserved invariant-loop decreases-loop
+loop-again c = (omega arith, below_more _ _ c.loop-i.invariant.1 (sym c.good_layout.ensures ∙ c.if-good_layout.true))
 
-returns : tie.Need-returns invariant-loop decreases-loop
+returns : tie.Need-returns-else-good_layout invariant-loop decreases-loop
 unfolding layouts_kept
 returns c =
     let i = c.before.before.before in
-    sym (every-not _ _ i.before.loop.i i.loop-test.true (sym c.before.good-layout.ensures ∙ c.if1.false))
+    sym (every-not _ _ i.loop-i.i i.loop-i-test.true (sym c.good_layout.ensures ∙ c.if-good_layout.false))
 
-returns-2 : tie.Need-returns-2 invariant-loop decreases-loop
+returns-2 : tie.Need-returns invariant-loop decreases-loop
 unfolding layouts_kept
 returns-2 c =
-    let a = c.before.before.args in
-    sym (every-all (λ (k : ℕ). good_layout a.shape.rank (layout_at a.t2 k)) a.count (λ k h. c.before.loop.invariant.1 k (omega (arith, c.loop-test.false))))
+    let a = c.args in
+    sym (every-all (λ (k : ℕ). good_layout a.shape.rank (layout_at a.t2 k)) a.count (λ k h. c.loop-i.invariant.1 k (omega (arith, c.loop-i-test.false))))
 
-pub layouts-kept-spec : {M : Type 1} → statement M
-layouts-kept-spec =
+pub layouts_kept_spec : {M : Type 1} → statement M
+layouts_kept_spec =
     tie.close
     (tie.spec
     invariant-loop

@@ -15,51 +15,51 @@ use Rattle.offset_table.specs.Answers.{layouts_kept, sizes_kept}
 use Rattle.offset_table.proofs.listed.sizes_kept.Statement.{statement}
 use Rattle.offset_table.proofs.listed.sizes_kept.Tie as tie
 
-abbrev invariant-loop : tie.invariant-loop
+abbrev invariant-loop : tie.invariant-loop-i
 invariant-loop shape count layouts i₀ i = (i ≤ count) × ((k : ℕ) → k < i → leb (padded_of shape (layout_at layouts k)) max_count ≡ true)
 
-abbrev decreases-loop : tie.decreases-loop
+abbrev decreases-loop : tie.decreases-loop-i
 decreases-loop shape count layouts i₀ i = count - i
 
-loop-holds : tie.Need-loop-init invariant-loop decreases-loop
+loop-holds : tie.Need-loop-i-init invariant-loop decreases-loop
 loop-holds c = (omega arith, below_none _)
 
-mul-padded-capped : tie.Need-overflow-mul-padded-capped invariant-loop decreases-loop
+mul-padded-capped : tie.Need-offset_bounds-layouts-i invariant-loop decreases-loop
 mul-padded-capped c = search rules
 
-array-copy-out-padded-capped : tie.Need-array-copy-out-padded-capped invariant-loop decreases-loop
+array-copy-out-padded-capped : tie.Need-bounds-layouts-i invariant-loop decreases-loop
 array-copy-out-padded-capped c = search rules
 
-padded-capped-requires : tie.Need-padded-capped-requires invariant-loop decreases-loop
+padded-capped-requires : tie.Need-padded_capped-requires invariant-loop decreases-loop
 unfolding layouts_kept
 padded-capped-requires c κs =
     let i = c.before in
     let s = i.before.before in
-    (s.requires.1, every-at _ _ s.requires.2 i.before.loop.i i.loop-test.true)
+    (s.requires.1, every-at _ _ s.requires.2 i.loop-i.i i.loop-i-test.true)
 
-add-i : tie.Need-overflow-add-i invariant-loop decreases-loop
+add-i : tie.Need-overflow_add-i invariant-loop decreases-loop
 add-i c = search rules
 
-loop-less : tie.Need-loop-smaller invariant-loop decreases-loop
+loop-less : tie.Need-loop-i-smaller invariant-loop decreases-loop
 loop-less c = search rules
 
-loop-again : tie.Need-loop-preserved invariant-loop decreases-loop
-loop-again c = (omega arith, below_more _ _ c.before.before.before.before.loop.invariant.1 (le-leb _ _ (under-cap _ _ c.before.padded-capped.ensures c.if1.true)))
+loop-again : tie.Need-loop-i-preserved invariant-loop decreases-loop
+loop-again c = (omega arith, below_more _ _ c.loop-i.invariant.1 (le-leb _ _ (under-cap _ _ c.padded_capped.ensures c.if-padded_capped-le-MAX_COUNT.true)))
 
-returns : tie.Need-returns invariant-loop decreases-loop
+returns : tie.Need-returns-else-padded_capped-le-MAX_COUNT invariant-loop decreases-loop
 unfolding sizes_kept
 returns c =
     let i = c.before.before.before in
-    sym (every-not _ _ i.before.loop.i i.loop-test.true (lt-leb _ _ (over-cap _ _ c.before.padded-capped.ensures c.if1.false)))
+    sym (every-not _ _ i.loop-i.i i.loop-i-test.true (lt-leb _ _ (over-cap _ _ c.padded_capped.ensures c.if-padded_capped-le-MAX_COUNT.false)))
 
-returns-2 : tie.Need-returns-2 invariant-loop decreases-loop
+returns-2 : tie.Need-returns invariant-loop decreases-loop
 unfolding sizes_kept
 returns-2 c =
-    let a = c.before.before.args in
-    sym (every-all (λ (k : ℕ). leb (padded_of a.shape (layout_at a.t2 k)) max_count) a.count (λ k h. c.before.loop.invariant.1 k (omega (arith, c.loop-test.false))))
+    let a = c.args in
+    sym (every-all (λ (k : ℕ). leb (padded_of a.shape (layout_at a.t2 k)) max_count) a.count (λ k h. c.loop-i.invariant.1 k (omega (arith, c.loop-i-test.false))))
 
-pub sizes-kept-spec : {M : Type 1} → statement M
-sizes-kept-spec =
+pub sizes_kept_spec : {M : Type 1} → statement M
+sizes_kept_spec =
     tie.close
     (tie.spec
     invariant-loop

@@ -7,17 +7,17 @@ use Rattle.offset_table.specs.Answers.{max_elements, is_table}
 use Rattle.offset_table.proofs.table.is_table.Statement.{statement}
 use Rattle.offset_table.proofs.table.is_table.Tie as tie
 
-count-of-requires : tie.Need-count-of-requires
+count-of-requires : tie.Need-count_of-n-requires
 count-of-requires c κs = search rules
 
-returns : tie.Need-returns
+returns : tie.Need-returns-then-n-gt-MAX_ELEMENTS
 unfolding is_table
-returns c = rw (lt-leb (count_of c.before.before.before.args.shape) max_elements (omega (arith, c.before.count_of.ensures, c.if1.true)))
+returns c = rw (lt-leb (count_of c.args.shape) max_elements (omega (arith, c.count_of-n.ensures, c.if-n-gt-MAX_ELEMENTS.true)))
 
-returns-2 : tie.Need-returns-2
+returns-2 : tie.Need-returns
 unfolding is_table
 returns-2 c =
-    rw (le-leb (count_of c.before.before.before.args.shape) max_elements (omega (arith, c.before.count_of.ensures, c.if1.false)), c.before.count_of.ensures)
+    rw (le-leb (count_of c.args.shape) max_elements (omega (arith, c.count_of-n.ensures, c.if-n-gt-MAX_ELEMENTS.false)), c.count_of-n.ensures)
 
-pub is-table-spec : {M : Type 1} → statement M
-is-table-spec = tie.close (tie.spec count-of-requires returns returns-2)
+pub is_table_spec : {M : Type 1} → statement M
+is_table_spec = tie.close (tie.spec count-of-requires returns returns-2)

@@ -15,115 +15,115 @@ use Rattle.pack.proofs.Cuts.{sizes-front, sizes-rest, rest-whole, prod-front, pr
 use Rattle.pack.proofs.cut.cut_of.Statement.{statement}
 use Rattle.pack.proofs.cut.cut_of.Tie as tie
 
-returns : tie.Need-returns
+returns : tie.Need-returns-then-sizes-eq0
 returns c =
     let s = c.before.before.before in
-    (cut-none s.args.sizes.now s.args.p.now c.if1.true, omega (arith, s.requires.0.1))
+    (cut-none s.args.sizes.now s.args.p.now c.if-sizes-eq0.true, omega (arith, s.requires.0.1))
 
 product-requires : tie.Need-product-requires
 product-requires c κs = search rules
 
-width-of-requires : tie.Need-width-of-requires
+width-of-requires : tie.Need-width_of-most-requires
 width-of-requires c κs = search rules
 
 -- where the function starts, and its sizes
-abbrev start : tie.Else1 → tie.Start
+abbrev start : tie.Else-sizes-eq0 → tie.Start
 start c = c.before.before.before
 
-abbrev Ds : tie.After-cut-dimension → List ℕ
+abbrev Ds : tie.After-cut_dimension-dimension → List ℕ
 Ds c = (start c.before.before.before).args.sizes.now
 
-abbrev K : tie.After-cut-dimension → ℕ
-K c = c.cut-dimension.result
+abbrev K : tie.After-cut_dimension-dimension → ℕ
+K c = c.cut_dimension-dimension.result
 
-cut-dimension-requires : tie.Need-cut-dimension-requires
+cut-dimension-requires : tie.Need-cut_dimension-dimension-requires
 cut-dimension-requires c κs =
     let e = c.before.before in
     let s = start e in
     let w = c.width_of_lem.ensures in
-    let n : 0 < length s.args.sizes.now = ⊎_elim (λ z. absurd (e.if1.false z)) (λ h. h) (eq-zero-or-pos (length s.args.sizes.now)) in
-    ((n, w.0, omega (arith, w.1, s.pre.0.2)), s.pre.1.1.0)
+    let n : 0 < length s.args.sizes.now = ⊎_elim (λ z. absurd (e.if-sizes-eq0.false z)) (λ h. h) (eq-zero-or-pos (length s.args.sizes.now)) in
+    ((n, w.0, omega (arith, w.1, s.requires.0.2)), s.requires.1.1.0)
 
-add-next : tie.Need-overflow-add-next
+add-next : tie.Need-overflow_add-next
 add-next c = search rules
 
-mul-product : tie.Need-overflow-mul-product
+mul-product : tie.Need-offset_bounds-sizes-next
 mul-product c = search rules
 
-sub-product : tie.Need-overflow-sub-product
+sub-product : tie.Need-slice_bounds-product-count
 sub-product c = search rules
 
-part-product-start : tie.Need-slice-bounds-product-start
+part-product-start : tie.Need-slice_bounds-product-start
 part-product-start c = search rules
 
-part-product-end : tie.Need-slice-bounds-product-end
+part-product-end : tie.Need-slice_bounds-product-end
 part-product-end c = search rules
 
-small : (c : tie.After-cut-dimension) → Sizes (Ds c) × (prod (Ds c) ≤ max_count)
+small : (c : tie.After-cut_dimension-dimension) → Sizes (Ds c) × (prod (Ds c) ≤ max_count)
 small c = (start c.before.before.before).requires.1.1
 
-inside : (c : tie.After-cut-dimension) → K c + 1 ≤ length (Ds c)
-inside c = omega (arith, c.cut-dimension.ensures.0)
+inside : (c : tie.After-cut_dimension-dimension) → K c + 1 ≤ length (Ds c)
+inside c = omega (arith, c.cut_dimension-dimension.ensures.0)
 
-product-requires-2 : tie.Need-product-requires-2
+product-requires-2 : tie.Need-product-span-requires
 product-requires-2 c κs = let d = c.before in subst Sizes (sym (rest-whole (K d + 1) (Ds d))) (sizes-rest (K d + 1) (Ds d) (inside d) (small d).0)
 
-slice-aggregate-product : tie.Need-slice-aggregate-product
+slice-aggregate-product : tie.Need-slice_bounds-product-end-2
 slice-aggregate-product c = let d = c.before.before.before in sym (length-take-le (K d + 1) (Ds d) (inside d))
 
-product-requires-3 : tie.Need-product-requires-3
+product-requires-3 : tie.Need-product-steps-requires
 product-requires-3 c κs = let d = c.before.before.before in sizes-front (K d + 1) (Ds d) (inside d) (small d).0
 
-mul-size : tie.Need-overflow-mul-size
+mul-size : tie.Need-offset_bounds-sizes-dimension
 mul-size c = search rules
 
-shared-slice-read-size : tie.Need-shared-slice-read-size
+shared-slice-read-size : tie.Need-bounds-sizes-dimension
 shared-slice-read-size c = search rules
 
 -- the two products are exact
-span : (c : tie.After-product2) → c.product2.result ≡ prod (drop (K c.before.before + 1) (Ds c.before.before))
+span : (c : tie.After-product-span) → c.product-span.result ≡ prod (drop (K c.before.before + 1) (Ds c.before.before))
 span c =
     let d = c.before.before in
-    c.product2.ensures ∙ ap (λ (l : List ℕ). min (prod l) (max_count + 1)) (rest-whole (K d + 1) (Ds d)) ∙ min-eq_left (omega (arith, prod-rest (K d + 1) (Ds d) (inside d) (small d).0, (small d).1))
+    c.product-span.ensures ∙ ap (λ (l : List ℕ). min (prod l) (max_count + 1)) (rest-whole (K d + 1) (Ds d)) ∙ min-eq_left (omega (arith, prod-rest (K d + 1) (Ds d) (inside d) (small d).0, (small d).1))
 
-steps : (c : tie.After-product3) → c.product3.result ≡ prod (take (K c.before.before.before.before + 1) (Ds c.before.before.before.before))
+steps : (c : tie.After-product-steps) → c.product-steps.result ≡ prod (take (K c.before.before.before.before + 1) (Ds c.before.before.before.before))
 steps c =
     let d = c.before.before.before.before in
-    c.product3.ensures ∙ min-eq_left (omega (arith, prod-front (K d + 1) (Ds d) (small d).0, (small d).1))
+    c.product-steps.ensures ∙ min-eq_left (omega (arith, prod-front (K d + 1) (Ds d) (small d).0, (small d).1))
 
 -- a coordinate spans at least one element, and not more than the width
-spans : (c : tie.After-product2) → (0 < c.product2.result) × (c.product2.result ≤ c.before.before.before.width_of_lem.result)
+spans : (c : tie.After-product-span) → (0 < c.product-span.result) × (c.product-span.result ≤ c.width_of_lem.result)
 spans c =
     let d = c.before.before in
     let e : prod (drop (K d + 1) (Ds d)) ≡ prod (drop (suc (K d)) (Ds d)) = ap (λ (n : ℕ). prod (drop n (Ds d))) (add-one (K d)) in
-    omega (arith, span c, e, rest-pos (Ds d) (K d + 1) (small d).0, d.cut-dimension.ensures.1)
+    omega (arith, span c, e, rest-pos (Ds d) (K d + 1) (small d).0, d.cut_dimension-dimension.ensures.1)
 
-div-few : tie.Need-nonzero-div-few
+div-few : tie.Need-nonzero_div-few
 div-few c = let h = (spans c.before.before.before).0 in omega (arith, h)
 
-place-of-requires : tie.Need-place-of-requires
+place-of-requires : tie.Need-place_of-place-requires
 place-of-requires c κs = search rules
 
 -- how wide a row is
-wide : (c : tie.Joined2) → (0 < c.if2.wide) × (c.if2.wide ≤ get_or (Ds c.before.before.before.before.before.before) (K c.before.before.before.before.before.before) 0) × (c.if2.wide * c.before.before.before.before.product2.result ≤ (start c.before.before.before.before.before.before.before.before.before).args.room)
+wide : (c : tie.Joined-size-few) → (0 < c.if-size-few.wide) × (c.if-size-few.wide ≤ get_or (Ds c.before.before.before.before.before.before) (K c.before.before.before.before.before.before) 0) × (c.if-size-few.wide * c.product-span.result ≤ (start c.before.before.before.before.before.before.before.before.before).args.room)
 unfolding Bounded
 wide c =
     let o = c.before.before.before.before in
     let d = o.before.before in
-    let m = d.before.width_of_lem.result in
-    let sp = o.product2.result in
+    let m = d.width_of_lem.result in
+    let sp = o.product-span.result in
     let few = m / sp in
     let h = spans o in
     let one : 1 ≤ few = (le-div_iff_mul-le h.0).1 (omega (arith, h.1)) in
     let most : few * sp ≤ m = div-mul-le_self m sp in
-    let r = d.before.width_of_lem.ensures.1 in
-    let pos : 0 < get_or (Ds d) (K d) 0 = ((small d).0 (K d) d.cut-dimension.ensures.0).0 in
+    let r = d.width_of_lem.ensures.1 in
+    let pos : 0 < get_or (Ds d) (K d) 0 = ((small d).0 (K d) d.cut_dimension-dimension.ensures.0).0 in
     ⊎_elim
-    (λ w. let le : c.if2.wide ≤ few = omega (arith, w.0.taken, w.1) in (omega (arith, pos, w.1), omega (arith, w.1), omega (arith, mul-le-mul_right sp le, most, r)))
-    (λ w. let le : c.if2.wide ≤ few = omega (arith, w.1) in (omega (arith, one, w.1), omega (arith, w.0.left, w.1), omega (arith, mul-le-mul_right sp le, most, r)))
-    c.if2.branch
+    (λ w. let le : c.if-size-few.wide ≤ few = omega (arith, w.0.taken, w.1) in (omega (arith, pos, w.1), omega (arith, w.1), omega (arith, mul-le-mul_right sp le, most, r)))
+    (λ w. let le : c.if-size-few.wide ≤ few = omega (arith, w.1) in (omega (arith, one, w.1), omega (arith, w.0.left, w.1), omega (arith, mul-le-mul_right sp le, most, r)))
+    c.if-size-few.branch
 
-returns-2 : tie.Need-returns-2
+returns-2 : tie.Need-returns
 returns-2 c =
     let j = c.before in
     let q = j.before.before in
@@ -131,10 +131,10 @@ returns-2 c =
     let d = o.before.before in
     let s = start d.before.before.before in
     let e = wide j in
-    (cut-is (Ds d) s.args.p.now s.pre.1.0 s.pre.0.0 (small d).0 (K d) c.place_of.result o.product2.result q.product3.result j.if2.wide d.cut-dimension.ensures.0 c.place_of.ensures (span o) (steps q) e.0 e.1, e.2)
+    (cut-is (Ds d) s.args.p.now s.requires.1.0 s.requires.0.0 (small d).0 (K d) c.place_of-place.result o.product-span.result q.product-steps.result j.if-size-few.wide d.cut_dimension-dimension.ensures.0 c.place_of-place.ensures (span o) (steps q) e.0 e.1, e.2)
 
-pub cut-of-spec : {M : Type 1} → statement M
-cut-of-spec =
+pub cut_of_spec : {M : Type 1} → statement M
+cut_of_spec =
     tie.close
     (tie.spec
     returns

@@ -17,7 +17,7 @@ use Rattle.pack.proofs.loops.pack_by_table.Statement.{statement}
 use Rattle.pack.proofs.loops.pack_by_table.Tie as tie
 
 -- where the function starts
-abbrev start : tie.After-none → tie.Start
+abbrev start : tie.After-none-1 → tie.Start
 start c = c.before.before.before.before.before.before.before.before.before
 
 abbrev Tss : tie.Start → List (List ℕ)
@@ -26,50 +26,50 @@ Tss s = tiles_from s.args.lens.now s.args.flat.now
 valid : (s : tie.Start) → Valid s.args.sizes.now s.args.p.now (Tss s)
 valid s = shaped-valid s.requires.0.shaped
 
-slice-aggregate-offsets-into : tie.Need-slice-aggregate-offsets-into
+slice-aggregate-offsets-into : tie.Need-slice_bounds-offsets_into-end
 slice-aggregate-offsets-into c = search rules
 
-array-share-prefix-none : tie.Need-array-share-prefix-none
+array-share-prefix-none : tie.Need-slice_bounds-none-end
 array-share-prefix-none c = search rules
 
-slice-aggregate-offsets-into-2 : tie.Need-slice-aggregate-offsets-into-2
+slice-aggregate-offsets-into-2 : tie.Need-slice_bounds-offsets_into-end-2
 slice-aggregate-offsets-into-2 c = search rules
 
 -- the empty table of multipliers has no entry that could be wrong
-offsets-into-requires : tie.Need-offsets-into-requires
+offsets-into-requires : tie.Need-offsets_into-requires
 offsets-into-requires c κs =
     let s = start c in
-    (record { at = λ k h. absurd (not-suc-le-zero h) }, (s.pre.0, (s.pre.1.0, (omega (arith, rest-pos s.args.sizes.now 0 s.pre.0.shaped.small, s.pre.1.1.0.0), omega (arith, s.pre.1.1.0.0), omega (arith, s.pre.1.1.0.1)))))
+    (record { at = λ k h. absurd (not-suc-le-zero h) }, (s.requires.0, (s.requires.1.0, (omega (arith, rest-pos s.args.sizes.now 0 s.requires.0.shaped.small, s.requires.1.1.0.0), omega (arith, s.requires.1.1.0.0), omega (arith, s.requires.1.1.0.1)))))
 
 -- the table has the offsets of all elements
-abbrev All : tie.After-offsets-into → List ℕ
+abbrev All : tie.After-offsets_into → List ℕ
 All c = let s = start c.before in offsets_from s.args.sizes.now s.args.p.now (Tss s) (prod s.args.sizes.now)
 
-all : (c : tie.After-offsets-into) → take (start c.before).args.count c.offsets-into.new.1.1.1.1.1.1.0 ≡ All c
-all c = let s = start c.before in c.offsets-into.ensures ∙ ap (offsets_from s.args.sizes.now s.args.p.now (Tss s)) s.pre.1.1.0.0
+all : (c : tie.After-offsets_into) → take (start c.before).args.count c.offsets_into.new.1.1.1.1.1.1.0 ≡ All c
+all c = let s = start c.before in c.offsets_into.ensures ∙ ap (offsets_from s.args.sizes.now s.args.p.now (Tss s)) s.requires.1.1.0.0
 
-array-share-prefix-table : tie.Need-array-share-prefix-table
+array-share-prefix-table : tie.Need-slice_bounds-table-end
 array-share-prefix-table c = search rules
 
-slice-aggregate-scatter : tie.Need-slice-aggregate-scatter
+slice-aggregate-scatter : tie.Need-slice_bounds-scatter-end
 slice-aggregate-scatter c =
     let o = c.before.before in
     let s = start o.before in
-    sym (ap length (all o) ∙ offsets-long s.args.sizes.now s.args.p.now (Tss s) (prod s.args.sizes.now) ∙ sym s.pre.1.1.0.0)
+    sym (ap length (all o) ∙ offsets-long s.args.sizes.now s.args.p.now (Tss s) (prod s.args.sizes.now) ∙ sym s.requires.1.1.0.0)
 
 scatter-requires : tie.Need-scatter-requires
 scatter-requires c κs =
     let o = c.before.before.before in
     let s = start o.before in
     let l = offsets-long s.args.sizes.now s.args.p.now (Tss s) (prod s.args.sizes.now) in
-    let room = s.pre.1.1.1.0 in
+    let room = s.requires.1.1.1.0 in
     let e = ap length (all o) in (
       omega (arith, e, l, room),
       subst (λ (t : List ℕ). Reaches 0 t (length s.args.cells.now)) (sym (all o))
-          (offsets-reach s.args.sizes.now s.args.p.now (Tss s) (valid s) (prod s.args.sizes.now) (length s.args.cells.now) (omega arith) s.pre.1.1.1.1),
+          (offsets-reach s.args.sizes.now s.args.p.now (Tss s) (valid s) (prod s.args.sizes.now) (length s.args.cells.now) (omega arith) s.requires.1.1.1.1),
     )
 
-same_length : tie.Need-same-length
+same_length : tie.Need-shape_of-cells
 same_length c = search rules
 
 returns : tie.Need-returns
@@ -79,10 +79,10 @@ returns c =
     let s = start o.before in
     subst (λ (x : List ℕ). Stored s.args.sizes.now s.args.p.now (Tss s) s.args.source.now (prod s.args.sizes.now) s.args.cells.now x)
     (sym (k.scatter.ensures ∙ ap (λ (t : List ℕ). scattered s.args.source.now 0 t 0 s.args.cells.now) (all o)))
-    (store-all s.args.sizes.now s.args.p.now (Tss s) s.args.source.now s.args.cells.now (valid s) s.pre.1.1.1.1)
+    (store-all s.args.sizes.now s.args.p.now (Tss s) s.args.source.now s.args.cells.now (valid s) s.requires.1.1.1.1)
 
-pub pack-by-table-spec : {M : Type 1} → statement M
-pack-by-table-spec =
+pub pack_by_table_spec : {M : Type 1} → statement M
+pack_by_table_spec =
     tie.close
     (tie.spec
     slice-aggregate-offsets-into

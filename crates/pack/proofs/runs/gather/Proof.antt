@@ -11,73 +11,73 @@ use Rattle.pack.proofs.Walking.{walk-next}
 use Rattle.pack.proofs.runs.gather.Statement.{statement}
 use Rattle.pack.proofs.runs.gather.Tie as tie
 
-abbrev invariant-loop : tie.invariant-loop
+abbrev invariant-loop : tie.invariant-loop-j
 invariant-loop cells table base a destination₀ j₀ destination j = (j ≤ length table) × (length destination ≡ length destination₀) × (gathered cells base (drop j table) (a + j) destination ≡ gathered cells base table a destination₀)
 
-abbrev decreases-loop : tie.decreases-loop
+abbrev decreases-loop : tie.decreases-loop-j
 decreases-loop cells table base a destination₀ j₀ destination j = length table - j
 
-loop-holds : tie.Need-loop-init invariant-loop decreases-loop
+loop-holds : tie.Need-loop-j-init invariant-loop decreases-loop
 loop-holds c = (search rules, refl, ap (λ (a : ℕ). gathered c.args.cells.now c.args.base c.args.table.now a c.args.destination.now) (add-zero c.args.a))
 
 -- the cell that the table names at j, and the place for it
-reached : (c : tie.In-loop invariant-loop decreases-loop) → c.before.before.args.base + get_or c.before.before.args.table.now c.before.loop.j 0 < length c.before.before.args.cells.now
-reached c = c.before.before.requires.1 c.before.loop.j c.loop-test.true
+reached : (c : tie.In-loop-j invariant-loop decreases-loop) → c.args.base + get_or c.args.table.now c.loop-j.j 0 < length c.args.cells.now
+reached c = c.requires.1 c.loop-j.j c.loop-j-test.true
 
-place : (c : tie.In-loop invariant-loop decreases-loop) → c.before.before.args.a + c.before.loop.j < length c.before.loop.destination
-place c = omega (arith, c.before.before.requires.0, c.loop-test.true, c.before.loop.invariant.1)
+place : (c : tie.In-loop-j invariant-loop decreases-loop) → c.args.a + c.loop-j.j < length c.loop-j.destination
+place c = omega (arith, c.requires.0, c.loop-j-test.true, c.loop-j.invariant.1)
 
-mul-o : tie.Need-overflow-mul-o invariant-loop decreases-loop
+mul-o : tie.Need-offset_bounds-table-j invariant-loop decreases-loop
 mul-o c = search rules
 
-shared-slice-read-o : tie.Need-shared-slice-read-o invariant-loop decreases-loop
+shared-slice-read-o : tie.Need-bounds-table-j invariant-loop decreases-loop
 shared-slice-read-o c = search rules
 
-add-o : tie.Need-overflow-add-o invariant-loop decreases-loop
+add-o : tie.Need-overflow_add-o invariant-loop decreases-loop
 add-o c = omega (arith, reached c.before)
 
-mul-destination : tie.Need-overflow-mul-destination invariant-loop decreases-loop
+mul-destination : tie.Need-offset_bounds-cells-o invariant-loop decreases-loop
 mul-destination c = omega (arith, reached c.before)
 
-shared-slice-read-destination : tie.Need-shared-slice-read-destination invariant-loop decreases-loop
+shared-slice-read-destination : tie.Need-bounds-cells-o invariant-loop decreases-loop
 shared-slice-read-destination c = reached c.before.before
 
-add-destination : tie.Need-overflow-add-destination invariant-loop decreases-loop
+add-destination : tie.Need-overflow_add-destination invariant-loop decreases-loop
 add-destination c = omega (arith, place c.before.before)
 
-mul-destination-2 : tie.Need-overflow-mul-destination-2 invariant-loop decreases-loop
+mul-destination-2 : tie.Need-offset_bounds-destination-a invariant-loop decreases-loop
 mul-destination-2 c = omega (arith, place c.before.before)
 
-slice-write-destination : tie.Need-slice-write-destination invariant-loop decreases-loop
+slice-write-destination : tie.Need-bounds-destination-a invariant-loop decreases-loop
 slice-write-destination c = place c.before.before
 
-add-j : tie.Need-overflow-add-j invariant-loop decreases-loop
+add-j : tie.Need-overflow_add-j invariant-loop decreases-loop
 add-j c = search rules
 
-loop-less : tie.Need-loop-smaller invariant-loop decreases-loop
+loop-less : tie.Need-loop-j-smaller invariant-loop decreases-loop
 loop-less c = search rules
 
-loop-again : tie.Need-loop-preserved invariant-loop decreases-loop
+loop-again : tie.Need-loop-j-preserved invariant-loop decreases-loop
 loop-again c =
     let i = c.before.before in
-    let l = i.before.loop in
-    let s = i.before.before.args in (
+    let l = i.loop-j in
+    let s = i.args in (
       search rules,
       length-set l.destination (s.a + l.j) (get_or s.cells.now (s.base + get_or s.table.now l.j 0) 0) ∙ l.invariant.1,
-      walk-next (λ (o a : ℕ) (xs : List ℕ). set xs a (get_or s.cells.now o 0)) s.base s.table.now s.a l.j l.destination i.loop-test.true ∙ l.invariant.2,
+      walk-next (λ (o a : ℕ) (xs : List ℕ). set xs a (get_or s.cells.now o 0)) s.base s.table.now s.a l.j l.destination i.loop-j-test.true ∙ l.invariant.2,
     )
 
-same_length : tie.Need-same-length invariant-loop decreases-loop
-same_length c = c.before.loop.invariant.1
+same_length : tie.Need-shape_of-destination invariant-loop decreases-loop
+same_length c = c.loop-j.invariant.1
 
 returns : tie.Need-returns invariant-loop decreases-loop
 returns c =
-    let l = c.before.loop in
-    let s = c.before.before.args in
-    ap (λ (t : List ℕ). gathered s.cells.now s.base t (s.a + l.j) l.destination) (sym (drop_of_length-le s.table.now c.loop-test.false)) ∙ l.invariant.2
+    let l = c.loop-j in
+    let s = c.args in
+    ap (λ (t : List ℕ). gathered s.cells.now s.base t (s.a + l.j) l.destination) (sym (drop_of_length-le s.table.now c.loop-j-test.false)) ∙ l.invariant.2
 
-pub gather-spec : {M : Type 1} → statement M
-gather-spec =
+pub gather_spec : {M : Type 1} → statement M
+gather_spec =
     tie.close
     (tie.spec
     invariant-loop

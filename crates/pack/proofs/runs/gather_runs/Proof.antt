@@ -12,83 +12,83 @@ use Rattle.pack.proofs.Copying.{AtRun, at_front, at_next, run_at, run-reaches, g
 use Rattle.pack.proofs.runs.gather_runs.Statement.{statement}
 use Rattle.pack.proofs.runs.gather_runs.Tie as tie
 
-abbrev invariant-loop : tie.invariant-loop
+abbrev invariant-loop : tie.invariant-loop-j
 invariant-loop cells table run base a destination₀ j₀ destination j = (j ≤ length table) × (length destination ≡ length destination₀) × AtRun run table j × (gathered cells base (drop j table) (a + j) destination ≡ gathered cells base table a destination₀)
 
-abbrev decreases-loop : tie.decreases-loop
+abbrev decreases-loop : tie.decreases-loop-j
 decreases-loop cells table run base a destination₀ j₀ destination j = length table - j
 
-abbrev start : tie.At-loop invariant-loop decreases-loop → tie.Start invariant-loop decreases-loop
+abbrev start : tie.At-loop-j invariant-loop decreases-loop → tie.Start invariant-loop decreases-loop
 start c = c.before.before.before.before
 
 -- the places of the run at j go on by ones, and its cells are reached
-part : (c : tie.After-run-from invariant-loop decreases-loop) → IsPart c.before.before.loop.j (start c.before.before).args.run (length (start c.before.before).args.table.now) c.run-from.result
-part c = c.run-from.ensures
+part : (c : tie.After-run_from-n invariant-loop decreases-loop) → IsPart c.loop-j.j (start c.before.before).args.run (length (start c.before.before).args.table.now) c.run_from-n.result
+part c = c.run_from-n.ensures
 
-goes : (c : tie.After-run-from invariant-loop decreases-loop) → GoesOn (start c.before.before).args.table.now c.before.before.loop.j c.run-from.result
+goes : (c : tie.After-run_from-n invariant-loop decreases-loop) → GoesOn (start c.before.before).args.table.now c.loop-j.j c.run_from-n.result
 goes c =
     let s = start c.before.before in
-    run_at s.args.run s.args.table.now c.before.before.loop.j c.run-from.result s.pre.1.1 c.before.before.loop.invariant.2 (part c)
+    run_at s.args.run s.args.table.now c.loop-j.j c.run_from-n.result s.requires.1.1 c.loop-j.invariant.2 (part c)
 
-reached : (c : tie.After-run-from invariant-loop decreases-loop)
-    → (start c.before.before).args.base + get_or (start c.before.before).args.table.now c.before.before.loop.j 0 + c.run-from.result ≤ length (start c.before.before).args.cells.now
+reached : (c : tie.After-run_from-n invariant-loop decreases-loop)
+    → (start c.before.before).args.base + get_or (start c.before.before).args.table.now c.loop-j.j 0 + c.run_from-n.result ≤ length (start c.before.before).args.cells.now
 reached c =
     let s = start c.before.before in
-    run-reaches s.args.base s.args.table.now (length s.args.cells.now) c.before.before.loop.j c.run-from.result s.pre.0.1 (part c).some (part c).inside (goes c)
+    run-reaches s.args.base s.args.table.now (length s.args.cells.now) c.loop-j.j c.run_from-n.result s.requires.0.1 (part c).some (part c).inside (goes c)
 
-loop-holds : tie.Need-loop-init invariant-loop decreases-loop
+loop-holds : tie.Need-loop-j-init invariant-loop decreases-loop
 loop-holds c =
     let s = c.before.before.before in
     (search rules, refl, at_front s.args.run s.args.table.now, ap (λ (a : ℕ). gathered s.args.cells.now s.args.base s.args.table.now a s.args.destination.now) (add-zero s.args.a))
 
-run-from-requires : tie.Need-run-from-requires invariant-loop decreases-loop
-run-from-requires c κs = ((start c.before).pre.1.0, c.loop-test.true)
+run-from-requires : tie.Need-run_from-n-requires invariant-loop decreases-loop
+run-from-requires c κs = ((start c.before).requires.1.0, c.loop-j-test.true)
 
-mul-o : tie.Need-overflow-mul-o invariant-loop decreases-loop
+mul-o : tie.Need-offset_bounds-table-j invariant-loop decreases-loop
 mul-o c = search rules
 
-shared-slice-read-o : tie.Need-shared-slice-read-o invariant-loop decreases-loop
+shared-slice-read-o : tie.Need-bounds-table-j invariant-loop decreases-loop
 shared-slice-read-o c = search rules
 
-add-o : tie.Need-overflow-add-o invariant-loop decreases-loop
+add-o : tie.Need-overflow_add-o invariant-loop decreases-loop
 add-o c = omega (arith, reached c.before)
 
-add-copy-values : tie.Need-overflow-add-copy-values invariant-loop decreases-loop
-add-copy-values c = omega (arith, (start c.before.before.before).pre.0.0)
+add-copy-values : tie.Need-overflow_add-a invariant-loop decreases-loop
+add-copy-values c = omega (arith, (start c.before.before.before).requires.0.0)
 
-copy-values-requires : tie.Need-copy-values-requires invariant-loop decreases-loop
-copy-values-requires c κs = let r = c.before.before in (omega (arith, reached r), omega (arith, (start r.before.before).pre.0.0, (part r).inside, r.before.before.loop.invariant.1))
+copy-values-requires : tie.Need-copy_values-requires invariant-loop decreases-loop
+copy-values-requires c κs = let r = c.before.before in (omega (arith, reached r), omega (arith, (start r.before.before).requires.0.0, (part r).inside, r.loop-j.invariant.1))
 
-add-j : tie.Need-overflow-add-j invariant-loop decreases-loop
+add-j : tie.Need-overflow_add-j invariant-loop decreases-loop
 add-j c = omega (arith, (part c.before.before.before.before.before).inside)
 
-loop-less : tie.Need-loop-smaller invariant-loop decreases-loop
+loop-less : tie.Need-loop-j-smaller invariant-loop decreases-loop
 loop-less c = omega (arith, (part c.before.before.before.before.before).some, (part c.before.before.before.before.before).inside)
 
-loop-again : tie.Need-loop-preserved invariant-loop decreases-loop
+loop-again : tie.Need-loop-j-preserved invariant-loop decreases-loop
 loop-again c =
     let k = c.before.before in
     let r = k.before.before.before in
-    let l = r.before.before.loop in
+    let l = r.loop-j in
     let s = (start r.before.before).args in
-    let n = r.run-from.result in (
+    let n = r.run_from-n.result in (
       (part r).inside,
-      k.copy-values.auto.1.1.1.1.0 ∙ l.invariant.1,
+      k.copy_values.auto.1.1.1.1.0 ∙ l.invariant.1,
       at_next s.run s.table.now l.j n (part r) l.invariant.2,
-      ap (λ (xs : List ℕ). gathered s.cells.now s.base (drop (l.j + n) s.table.now) (s.a + (l.j + n)) xs) k.copy-values.ensures ∙ gather-run s.cells.now s.base s.table.now s.a l.j n l.destination (part r).inside (goes r) ∙ l.invariant.3,
+      ap (λ (xs : List ℕ). gathered s.cells.now s.base (drop (l.j + n) s.table.now) (s.a + (l.j + n)) xs) k.copy_values.ensures ∙ gather-run s.cells.now s.base s.table.now s.a l.j n l.destination (part r).inside (goes r) ∙ l.invariant.3,
     )
 
-same_length : tie.Need-same-length invariant-loop decreases-loop
-same_length c = c.before.loop.invariant.1
+same_length : tie.Need-shape_of-destination invariant-loop decreases-loop
+same_length c = c.loop-j.invariant.1
 
 returns : tie.Need-returns invariant-loop decreases-loop
 returns c =
-    let l = c.before.loop in
+    let l = c.loop-j in
     let s = (start c.before).args in
-    ap (λ (t : List ℕ). gathered s.cells.now s.base t (s.a + l.j) l.destination) (sym (drop_of_length-le s.table.now c.loop-test.false)) ∙ l.invariant.3
+    ap (λ (t : List ℕ). gathered s.cells.now s.base t (s.a + l.j) l.destination) (sym (drop_of_length-le s.table.now c.loop-j-test.false)) ∙ l.invariant.3
 
-pub gather-runs-spec : {M : Type 1} → statement M
-gather-runs-spec =
+pub gather_runs_spec : {M : Type 1} → statement M
+gather_runs_spec =
     tie.close
     (tie.spec
     invariant-loop

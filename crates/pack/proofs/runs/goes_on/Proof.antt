@@ -10,57 +10,57 @@ use Rattle.pack.specs.Runs.{GoesOn}
 use Rattle.pack.proofs.runs.goes_on.Statement.{statement}
 use Rattle.pack.proofs.runs.goes_on.Tie as tie
 
-abbrev invariant-loop : tie.invariant-loop
+abbrev invariant-loop : tie.invariant-loop-i
 invariant-loop table j n first i₀ i = (i ≤ n) × GoesOn table j i
 
-abbrev decreases-loop : tie.decreases-loop
+abbrev decreases-loop : tie.decreases-loop-i
 decreases-loop table j n first i₀ i = n - i
 
-mul-first : tie.Need-overflow-mul-first invariant-loop decreases-loop
+mul-first : tie.Need-offset_bounds-table-j invariant-loop decreases-loop
 mul-first c = search rules
 
-shared-slice-read-first : tie.Need-shared-slice-read-first invariant-loop decreases-loop
+shared-slice-read-first : tie.Need-bounds-table-j invariant-loop decreases-loop
 shared-slice-read-first c = search rules
 
-loop-holds : tie.Need-loop-init invariant-loop decreases-loop
+loop-holds : tie.Need-loop-i-init invariant-loop decreases-loop
 loop-holds c = search rules
 
-add-t : tie.Need-overflow-add-t invariant-loop decreases-loop
+add-t : tie.Need-overflow_add-t invariant-loop decreases-loop
 add-t c = search rules
 
-mul-t : tie.Need-overflow-mul-t invariant-loop decreases-loop
+mul-t : tie.Need-offset_bounds-table-j-in-loop-i invariant-loop decreases-loop
 mul-t c = search rules
 
-shared-slice-read-t : tie.Need-shared-slice-read-t invariant-loop decreases-loop
+shared-slice-read-t : tie.Need-bounds-table-j-in-loop-i invariant-loop decreases-loop
 shared-slice-read-t c = search rules
 
-returns : tie.Need-returns invariant-loop decreases-loop
+returns : tie.Need-returns-then-t-first invariant-loop decreases-loop
 returns c e = let z : ◌≡◌ {A = ℕ} 0 1 = cc in absurd (omega arith)
 
-returns-2 : tie.Need-returns-2 invariant-loop decreases-loop
+returns-2 : tie.Need-returns-then-t-first-2 invariant-loop decreases-loop
 returns-2 c e = let z : ◌≡◌ {A = ℕ} 0 1 = cc in absurd (omega arith)
 
-add-i : tie.Need-overflow-add-i invariant-loop decreases-loop
+add-i : tie.Need-overflow_add-i invariant-loop decreases-loop
 add-i c = search rules
 
-loop-less : tie.Need-loop-smaller invariant-loop decreases-loop
+loop-less : tie.Need-loop-i-smaller invariant-loop decreases-loop
 loop-less c = search rules
 
-loop-again : tie.Need-loop-preserved invariant-loop decreases-loop
+loop-again : tie.Need-loop-i-preserved invariant-loop decreases-loop
 loop-again c =
     let i = c.before.before.before in
-    let l = i.before.loop in
-    let s = i.before.before.before.args in
-    let now_on : get_or s.table.now (s.j + l.i) 0 ≡ get_or s.table.now s.j 0 + l.i = omega (arith, c.before.if1.false, c.if2.false) in (
+    let l = i.loop-i in
+    let s = i.args in
+    let now_on : get_or s.table.now (s.j + l.i) 0 ≡ get_or s.table.now s.j 0 + l.i = omega (arith, c.if-t-first.false, c.if-t-first-2.false) in (
       search rules,
       λ k h. ⊎_elim (λ (q : k ≡ l.i). subst (λ (x : ℕ). get_or s.table.now (s.j + x) 0 ≡ get_or s.table.now s.j 0 + x) (sym q) now_on) (λ (q : k < l.i). l.invariant.1 k q) (eq-or-lt_of_le (omega (arith, h))),
     )
 
-returns-3 : tie.Need-returns-3 invariant-loop decreases-loop
-returns-3 c e k h = c.before.loop.invariant.1 k (omega (arith, h, c.loop-test.false))
+returns-3 : tie.Need-returns invariant-loop decreases-loop
+returns-3 c e k h = c.loop-i.invariant.1 k (omega (arith, h, c.loop-i-test.false))
 
-pub goes-on-spec : {M : Type 1} → statement M
-goes-on-spec =
+pub goes_on_spec : {M : Type 1} → statement M
+goes_on_spec =
     tie.close
     (tie.spec
     invariant-loop

@@ -5,21 +5,21 @@ use Rattle.pack.proofs.Copying.{runs-of-one}
 use Rattle.pack.proofs.runs.run_length.Statement.{statement}
 use Rattle.pack.proofs.runs.run_length.Tie as tie
 
-front-run-requires : tie.Need-front-run-requires
+front-run-requires : tie.Need-front_run-run-requires
 front-run-requires c κs = search rules
 
-returns : tie.Need-returns
-returns c = (omega arith, runs-of-one c.before.before.before.args.table.now)
+returns : tie.Need-returns-then-run-lt-SHORT
+returns c = (omega arith, runs-of-one c.args.table.now)
 
-in-runs-requires : tie.Need-in-runs-requires
+in-runs-requires : tie.Need-in_runs-requires
 in-runs-requires c κs = search rules
 
-returns-2 : tie.Need-returns-2
-returns-2 c = (c.before.before.before.front-run.ensures, c.before.in-runs.ensures c.if2.true)
+returns-2 : tie.Need-returns-then-in_runs
+returns-2 c = (c.front_run-run.ensures, c.in_runs.ensures c.if-in_runs.true)
 
-returns-3 : tie.Need-returns-3
-returns-3 c = (omega arith, runs-of-one c.before.before.before.before.before.args.table.now)
+returns-3 : tie.Need-returns
+returns-3 c = (omega arith, runs-of-one c.args.table.now)
 
-pub run-length-spec : {M : Type 1} → statement M
-run-length-spec =
+pub run_length_spec : {M : Type 1} → statement M
+run_length_spec =
     tie.close (tie.spec front-run-requires returns in-runs-requires returns-2 returns-3)

@@ -6,5 +6,5 @@ use Rattle.reciprocal.proofs.inner.multipliers.Tie as tie
 returns : tie.Need-returns
 returns c = refl
 
-pub multipliers-spec : {M : Type 1} → statement M
-multipliers-spec = tie.close (tie.spec returns)
+pub multipliers_spec : {M : Type 1} → statement M
+multipliers_spec = tie.close (tie.spec returns)

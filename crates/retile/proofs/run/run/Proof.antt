@@ -11,44 +11,44 @@ use Rattle.retile.proofs.run.run.Tie as tie
 none : AreMultipliers []
 none = record { at = λ k h. absurd (not-suc-le-zero h) }
 
-slice-aggregate-rows-of : tie.Need-slice-aggregate-rows-of
+slice-aggregate-rows-of : tie.Need-slice_bounds-rows_of-end
 slice-aggregate-rows-of c = search rules
 
-slice-aggregate-rows-of-2 : tie.Need-slice-aggregate-rows-of-2
+slice-aggregate-rows-of-2 : tie.Need-slice_bounds-rows_of-end-2
 slice-aggregate-rows-of-2 c = search rules
 
-array-share-prefix-none : tie.Need-array-share-prefix-none
+array-share-prefix-none : tie.Need-slice_bounds-none-end
 array-share-prefix-none c = search rules
 
-slice-aggregate-rows-of-3 : tie.Need-slice-aggregate-rows-of-3
+slice-aggregate-rows-of-3 : tie.Need-slice_bounds-rows_of-end-3
 slice-aggregate-rows-of-3 c = search rules
 
-rows-of-requires : tie.Need-rows-of-requires
+rows-of-requires : tie.Need-rows_of-g-requires
 rows-of-requires c κs =
     let s = c.before.before.before.before.before.before.before.before.before.before.before.before.before.before in
     let a = s.requires.0 in
     let b = s.requires.1.0 in
     (none, ((a.ready, a.same), ((b.ready, b.same), omega arith)))
 
-slice-aggregate-settle-parts : tie.Need-slice-aggregate-settle-parts
+slice-aggregate-settle-parts : tie.Need-slice_bounds-settle_parts-end
 slice-aggregate-settle-parts c = search rules
 
-slice-aggregate-settle-parts-2 : tie.Need-slice-aggregate-settle-parts-2
+slice-aggregate-settle-parts-2 : tie.Need-slice_bounds-settle_parts-end-2
 slice-aggregate-settle-parts-2 c = search rules
 
-array-share-prefix-none-2 : tie.Need-array-share-prefix-none-2
+array-share-prefix-none-2 : tie.Need-slice_bounds-none-end-2
 array-share-prefix-none-2 c = search rules
 
-slice-aggregate-settle-parts-3 : tie.Need-slice-aggregate-settle-parts-3
+slice-aggregate-settle-parts-3 : tie.Need-slice_bounds-settle_parts-end-3
 slice-aggregate-settle-parts-3 c = search rules
 
-settle-parts-requires : tie.Need-settle-parts-requires
+settle-parts-requires : tie.Need-settle_parts-requires
 settle-parts-requires c κs =
     let r = c.before.before.before.before.before.before.before in
     let s = r.before.before.before.before.before.before.before.before.before.before.before.before.before.before.before in
     (none, (r.rows_of_lem.ensures, s.requires))
 
-same_length : tie.Need-same-length
+same_length : tie.Need-shape_of-cells
 same_length c = search rules
 
 returns : tie.Need-returns

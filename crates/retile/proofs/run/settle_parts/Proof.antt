@@ -17,15 +17,15 @@ use Rattle.retile.proofs.Parts.{Come, come-start, come-length, come-next, next-m
 use Rattle.retile.proofs.run.settle_parts.Statement.{statement}
 use Rattle.retile.proofs.run.settle_parts.Tie as tie
 
-abbrev invariant-loop : tie.invariant-loop
+abbrev invariant-loop : tie.invariant-loop-mark
 invariant-loop sizes p plens pflat pdims q qlens qflat qdims g ptable qtable source cells₀ mark₀ count m end ahead₀ cells mark ahead =
     (length ahead ≡ 256) × (mark ≤ end) × Come (value_in sizes p (tiles_from plens pflat) q (tiles_from qlens qflat) source) (memory cells₀ mark₀) (memory cells mark)
 
-abbrev decreases-loop : tie.decreases-loop
+abbrev decreases-loop : tie.decreases-loop-mark
 decreases-loop sizes p plens pflat pdims q qlens qflat qdims g ptable qtable source cells₀ mark₀ count m end ahead₀ cells mark ahead = end - mark
 
 -- where the function starts, from the loop; the value of each cell, and the memory there and here
-abbrev start : tie.At-loop invariant-loop decreases-loop → tie.Start invariant-loop decreases-loop
+abbrev start : tie.At-loop-mark invariant-loop decreases-loop → tie.Start invariant-loop decreases-loop
 start c = c.before.before.before.before.before.before.before.before.before.before.before.before.before.before.before.before
 
 abbrev Value : tie.Start invariant-loop decreases-loop → ℕ → ℕ
@@ -34,60 +34,60 @@ Value s = value_in s.args.sizes.now s.args.p.now (tiles_from s.args.plens.now s.
 abbrev First : tie.Start invariant-loop decreases-loop → Memory
 First s = memory s.args.cells.now s.args.mark.now
 
-abbrev Here : tie.At-loop invariant-loop decreases-loop → Memory
-Here c = memory c.loop.cells c.loop.mark
+abbrev Here : tie.At-loop-mark invariant-loop decreases-loop → Memory
+Here c = memory c.loop-mark.cells c.loop-mark.mark
 
 abbrev Size : tie.Start invariant-loop decreases-loop → ℕ
 Size s = padded s.args.sizes.now s.args.q.now (tiles_from s.args.qlens.now s.args.qflat.now)
 
-add-end : tie.Need-overflow-add-end invariant-loop decreases-loop
+add-end : tie.Need-overflow_add-end invariant-loop decreases-loop
 add-end c = let s = c.before.before.before.before.before.before.before.before.before.before.before.before.before.before.before in omega (arith, s.requires.1.1.1.1, s.requires.1.1.1.0.ready.room)
 
-loop-holds : tie.Need-loop-init invariant-loop decreases-loop
+loop-holds : tie.Need-loop-mark-init invariant-loop decreases-loop
 loop-holds c = let s = c.before.before.before.before.before.before.before.before.before.before.before.before.before.before.before in (refl, omega arith, come-start (Value s) (First s))
 
-sub-least : tie.Need-overflow-sub-least invariant-loop decreases-loop
+sub-least : tie.Need-overflow_sub-end invariant-loop decreases-loop
 sub-least c = search rules
 
-least-requires : tie.Need-least-requires invariant-loop decreases-loop
+least-requires : tie.Need-least-n-requires invariant-loop decreases-loop
 least-requires c κs = search rules
 
 -- a part: its cells, as many as are read and fit, and where they are read
-module _ (c : tie.After-least invariant-loop decreases-loop) where
-  abbrev l : tie.At-loop invariant-loop decreases-loop
+module _ (c : tie.After-least-n invariant-loop decreases-loop) where
+  abbrev l : tie.At-loop-mark invariant-loop decreases-loop
   l = c.before.before.before
 
   abbrev n : ℕ
-  n = c.least.result
+  n = c.least-n.result
 
   few : n ≤ 256
-  few = omega (arith, c.least.ensures, min-le_left 256 ((start l).args.mark.now + (start l).args.count - l.loop.mark))
+  few = omega (arith, c.least-n.ensures, min-le_left 256 ((start l).args.mark.now + (start l).args.count - l.loop-mark.mark))
 
-  fit : n ≤ (start l).args.mark.now + (start l).args.count - l.loop.mark
-  fit = omega (arith, c.least.ensures, min-le_right 256 ((start l).args.mark.now + (start l).args.count - l.loop.mark))
+  fit : n ≤ (start l).args.mark.now + (start l).args.count - l.loop-mark.mark
+  fit = omega (arith, c.least-n.ensures, min-le_right 256 ((start l).args.mark.now + (start l).args.count - l.loop-mark.mark))
 
   some : 0 < n
-  some = ⊎_elim (λ (h : 256 ≤ now (start l).args.mark + (start l).args.count - l.loop.mark). omega (arith, c.least.ensures, min-eq_left {n = 256} {m = now (start l).args.mark + (start l).args.count - l.loop.mark} h)) (λ (h : now (start l).args.mark + (start l).args.count - l.loop.mark < 256). omega (arith, c.least.ensures, c.before.before.loop-test.true, min-eq_right {n = now (start l).args.mark + (start l).args.count - l.loop.mark} {m = 256} (omega arith))) (le-or-lt 256 (now (start l).args.mark + (start l).args.count - l.loop.mark))
+  some = ⊎_elim (λ (h : 256 ≤ now (start l).args.mark + (start l).args.count - l.loop-mark.mark). omega (arith, c.least-n.ensures, min-eq_left {n = 256} {m = now (start l).args.mark + (start l).args.count - l.loop-mark.mark} h)) (λ (h : now (start l).args.mark + (start l).args.count - l.loop-mark.mark < 256). omega (arith, c.least-n.ensures, c.loop-mark-test.true, min-eq_right {n = now (start l).args.mark + (start l).args.count - l.loop-mark.mark} {m = 256} (omega arith))) (le-or-lt 256 (now (start l).args.mark + (start l).args.count - l.loop-mark.mark))
 
-  room : n ≤ length l.loop.ahead
-  room = omega (arith, few, l.loop.inv.0)
+  room : n ≤ length l.loop-mark.ahead
+  room = omega (arith, few, l.loop-mark.inv.0)
 
-  lent : length (take n l.loop.ahead) ≡ n
-  lent = length-take-le n l.loop.ahead room
+  lent : length (take n l.loop-mark.ahead) ≡ n
+  lent = length-take-le n l.loop-mark.ahead room
 
-  inside : l.loop.mark + n ≤ Size (start l)
-  inside = omega (arith, fit, l.loop.inv.1, (start l).pre.1.1.1.1)
+  inside : l.loop-mark.mark + n ≤ Size (start l)
+  inside = omega (arith, fit, l.loop-mark.inv.1, (start l).requires.1.1.1.1)
 
 -- the values that were read, and where they stand
-module _ (v : tie.After-values-into invariant-loop decreases-loop) where
-  abbrev part : tie.After-least invariant-loop decreases-loop
+module _ (v : tie.After-values_into invariant-loop decreases-loop) where
+  abbrev part : tie.After-least-n invariant-loop decreases-loop
   part = v.before.before
 
   abbrev Read : List ℕ
-  Read = v.values-into.last.1.1.1.1.1.1.1.1.1.1.1.1.1.1.0
+  Read = v.values_into.last.1.1.1.1.1.1.1.1.1.1.1.1.1.1.0
 
   read_length : length Read ≡ n part
-  read_length = v.values-into.kept.1.1.1.1.1.1.1.1.1.1.1.1.1.1.0 ∙ lent part
+  read_length = v.values_into.kept.1.1.1.1.1.1.1.1.1.1.1.1.1.1.0 ∙ lent part
 
   abbrev Ahead : List ℕ
   Ahead = Read ++ drop (n part) (l part).loop.ahead
@@ -95,31 +95,31 @@ module _ (v : tie.After-values-into invariant-loop decreases-loop) where
   held : take (n part) Ahead ≡ Read
   held = take_at Read (drop (n part) (l part).loop.ahead) (n part) read_length
 
-array-borrow-prefix-ahead : tie.Need-array-borrow-prefix-ahead invariant-loop decreases-loop
+array-borrow-prefix-ahead : tie.Need-slice_bounds-ahead-end invariant-loop decreases-loop
 array-borrow-prefix-ahead c = room c
 
-slice-aggregate-values-into : tie.Need-slice-aggregate-values-into invariant-loop decreases-loop
+slice-aggregate-values-into : tie.Need-slice_bounds-values_into-end invariant-loop decreases-loop
 slice-aggregate-values-into c = sym (lent c.before)
 
-values-into-requires : tie.Need-values-into-requires invariant-loop decreases-loop
+values-into-requires : tie.Need-values_into-requires invariant-loop decreases-loop
 values-into-requires c κs =
     let t = c.before in
     let s = start (l t) in
-    let b = s.pre.1.1.1.0 in (
-      s.pre.0,
+    let b = s.requires.1.1.1.0 in (
+      s.requires.0,
       (
-        s.pre.1.1.0,
-        ((b.ready, b.same, omega (arith, inside t, lent t)), (s.pre.1.0, omega (arith, few t, lent t))),
+        s.requires.1.1.0,
+        ((b.ready, b.same, omega (arith, inside t, lent t)), (s.requires.1.0, omega (arith, few t, lent t))),
       ),
     )
 
-array-share-prefix-ahead : tie.Need-array-share-prefix-ahead invariant-loop decreases-loop
+array-share-prefix-ahead : tie.Need-slice_bounds-ahead-end-in-loop-mark invariant-loop decreases-loop
 array-share-prefix-ahead c = omega (arith, read_length c.before, length-append (Read c.before) (drop (n (part c.before)) (l (part c.before)).loop.ahead))
 
-slice-aggregate-settle : tie.Need-slice-aggregate-settle invariant-loop decreases-loop
+slice-aggregate-settle : tie.Need-slice_bounds-settle-end invariant-loop decreases-loop
 slice-aggregate-settle c = sym (ap length (held c.before.before) ∙ read_length c.before.before)
 
-mul-settle : tie.Need-overflow-mul-settle invariant-loop decreases-loop
+mul-settle : tie.Need-overflow_mul-n invariant-loop decreases-loop
 mul-settle c = omega (arith, few (part c.before.before))
 
 settle-requires : tie.Need-settle-requires invariant-loop decreases-loop
@@ -128,56 +128,56 @@ settle-requires c κs =
     let t = part v in
     let s = start (l t) in
     let e : length (take (n t) (Ahead v)) ≡ n t = ap length (held v) ∙ read_length v in
-    omega (arith, e, inside t, come-length (Value s) (l t).loop.inv.2, s.pre.1.1.1.0.room, s.pre.1.1.1.0.ready.room)
+    omega (arith, e, inside t, come-length (Value s) (l t).loop.inv.2, s.requires.1.1.1.0.room, s.requires.1.1.1.0.ready.room)
 
 -- what is settled of a part
 module _ (c : tie.After-settle invariant-loop decreases-loop) where
-  abbrev read : tie.After-values-into invariant-loop decreases-loop
+  abbrev read : tie.After-values_into invariant-loop decreases-loop
   read = c.before.before.before.before.before
 
-  abbrev a : tie.At-loop invariant-loop decreases-loop
+  abbrev a : tie.At-loop-mark invariant-loop decreases-loop
   a = l (part read)
 
   abbrev There : Memory
   There = memory c.settle.new.1.1.0 c.settle.new.1.1.1.0
 
-  values : take (n (part read)) (Ahead read) ≡ tab (λ (i : ℕ). Value (start a) (a.loop.mark + i)) (n (part read))
-  values = held read ∙ read.values-into.ensures ∙ ap (tab (λ (i : ℕ). Value (start a) (a.loop.mark + i))) (lent (part read))
+  values : take (n (part read)) (Ahead read) ≡ tab (λ (i : ℕ). Value (start a) (a.loop-mark.mark + i)) (n (part read))
+  values = held read ∙ read.values_into.ensures ∙ ap (tab (λ (i : ℕ). Value (start a) (a.loop-mark.mark + i))) (lent (part read))
 
   come : Come (Value (start a)) (First (start a)) There
-  come = come-next (Value (start a)) (First (start a)) (Here a) There (take (n (part read)) (Ahead read)) (n (part read)) values c.settle.ensures a.loop.inv.2
+  come = come-next (Value (start a)) (First (start a)) (Here a) There (take (n (part read)) (Ahead read)) (n (part read)) values c.settle.ensures a.loop-mark.inv.2
 
-  moved : There.mark ≡ a.loop.mark + n (part read)
+  moved : There.mark ≡ a.loop-mark.mark + n (part read)
   moved = next-mark (Value (start a)) (First (start a)) (Here a) There (take (n (part read)) (Ahead read)) (n (part read)) values c.settle.ensures
 
-loop-less : tie.Need-loop-smaller invariant-loop decreases-loop
+loop-less : tie.Need-loop-mark-smaller invariant-loop decreases-loop
 loop-less c =
     let d = c.before.before in
     let t = part (read d) in
-    omega (arith, moved d, some t, t.before.before.loop-test.taken)
+    omega (arith, moved d, some t, t.loop-mark-test.taken)
 
-loop-again : tie.Need-loop-preserved invariant-loop decreases-loop
+loop-again : tie.Need-loop-mark-preserved invariant-loop decreases-loop
 loop-again c =
     let d = c.before.before in
     let t = part (read d) in
     let b = l t in (
-      length-append (Read (read d)) (drop (n t) b.loop.ahead) ∙ omega (arith, read_length (read d), length-drop (n t) b.loop.ahead, room t, b.loop.inv.0),
-      omega (arith, moved d, fit t, b.loop.inv.1),
+      length-append (Read (read d)) (drop (n t) b.loop-mark.ahead) ∙ omega (arith, read_length (read d), length-drop (n t) b.loop-mark.ahead, room t, b.loop-mark.inv.0),
+      omega (arith, moved d, fit t, b.loop-mark.inv.1),
       come d,
     )
 
-same_length : tie.Need-same-length invariant-loop decreases-loop
-same_length c = let a = c.before in come-length (Value (start a)) a.loop.invariant.2
+same_length : tie.Need-shape_of-cells invariant-loop decreases-loop
+same_length c = let a = c.before in come-length (Value (start a)) a.loop-mark.invariant.2
 
 returns : tie.Need-returns invariant-loop decreases-loop
 returns c =
     let a = c.before in
     let s = start a in
-    let e : a.loop.mark - s.args.mark.now ≡ s.args.count = omega (arith, c.loop-test.false, a.loop.invariant.1) in
-    a.loop.invariant.2.left ∙ ap (λ (k : ℕ). apply_all (stores (Value s) s.args.mark.now k) (First s)) e
+    let e : a.loop-mark.mark - s.args.mark.now ≡ s.args.count = omega (arith, c.loop-mark-test.false, a.loop-mark.invariant.1) in
+    a.loop-mark.invariant.2.left ∙ ap (λ (k : ℕ). apply_all (stores (Value s) s.args.mark.now k) (First s)) e
 
-pub settle-parts-spec : {M : Type 1} → statement M
-settle-parts-spec =
+pub settle_parts_spec : {M : Type 1} → statement M
+settle_parts_spec =
     tie.close
     (tie.spec
     invariant-loop

@@ -9,39 +9,39 @@ use Rattle.retile.specs.declared.stores.Phase.{Phase}
 use Rattle.retile.proofs.stores.step.Statement.{statement}
 use Rattle.retile.proofs.stores.step.Tie as tie
 
-enum_told : tie.Need-enum-told
+enum_told : tie.Need-enum_told-1
 enum_told c = search rules
 
-store-cell-requires : tie.Need-store-cell-requires
+store-cell-requires : tie.Need-store_cell-requires
 store-cell-requires c κs = search rules
 
-enum-told-2 : tie.Need-enum-told-2
+enum-told-2 : tie.Need-enum_told-in-Mark
 enum-told-2 c = search rules
 
-store-mark-requires : tie.Need-store-mark-requires
+store-mark-requires : tie.Need-store_mark-requires
 store-mark-requires c κs = search rules
 
-same_length : tie.Need-same-length
+same_length : tie.Need-shape_of-cells
 same_length c = search rules
 
-returns : tie.Need-returns
+returns : tie.Need-returns-in-Cell
 returns c =
     let k = c.before.before in
     let t = k.before.before.before in
-    let a = t.before.before.before.args in
+    let a = t.args in
     let m = a.mark.now in
-    let e = sym t.enum_told.given.1 in (
-      ap (λ (xs : List ℕ). memory xs m) k.store-cell.ensures ∙ ap (λ (x : Phase). apply (next_store a.value m x) (memory a.cells.now m)) e,
+    let e = sym t.in-Cell.is in (
+      ap (λ (xs : List ℕ). memory xs m) k.store_cell.ensures ∙ ap (λ (x : Phase). apply (next_store a.value m x) (memory a.cells.now m)) e,
       ap turned e,
     )
 
-returns-2 : tie.Need-returns-2
+returns-2 : tie.Need-returns-in-Mark
 returns-2 c =
     let t = c.before.before in
-    let a = t.before.before.before.args in
+    let a = t.args in
     let m = a.mark.now in
-    let e = sym t.enum-told2.given.1 in (
-      ap (memory a.cells.now) c.store-mark.ensures ∙ ap (λ (x : Phase). apply (next_store a.value m x) (memory a.cells.now m)) e,
+    let e = sym t.in-Mark.is in (
+      ap (memory a.cells.now) c.store_mark.ensures ∙ ap (λ (x : Phase). apply (next_store a.value m x) (memory a.cells.now m)) e,
       ap turned e,
     )
 

@@ -10,56 +10,56 @@ use Rattle.route.proofs.load.add.Statement.{statement}
 use Rattle.route.proofs.load.add.Tie as tie
 
 -- what the tests of the station say
-numbers-are : (c : tie.After-both) → c.both.result ≡ good_numbers c.before.before.before.args.i c.before.before.before.args.station
-numbers-are c = c.both.ensures ∙ ap₂ ◌&&◌ c.before.before.good-count.ensures c.before.good-parent.ensures
+numbers-are : (c : tie.After-both) → c.both.result ≡ good_numbers c.args.i c.args.station
+numbers-are c = c.both.ensures ∙ ap₂ ◌&&◌ c.good_count.ensures c.good_parent.ensures
 
-numbered : (c : tie.Else1) → good_numbers c.before.before.before.before.args.i c.before.before.before.before.args.station ≡ true
-numbered c = sym (numbers-are c.before) ∙ not-false _ c.if1.false
+numbered : (c : tie.Else-not-both) → good_numbers c.args.i c.args.station ≡ true
+numbered c = sym (numbers-are c.before) ∙ not-false _ c.if-not-both.false-raw
 
-counted : (c : tie.Else1) → good_count c.before.before.before.before.args.station ≡ true
+counted : (c : tie.Else-not-both) → good_count c.args.station ≡ true
 counted c =
     let s = c.before.before.before.before in
     and_left (good_count s.args.station) (good_parent s.args.i s.args.station) (numbered c)
 
 laid_out :
-    (c : tie.Else2) →
-    good_layouts c.before.before.before.before.before.before.args.shape.rank c.before.before.before.before.before.before.args.station
+    (c : tie.Else-not-good_layouts) →
+    good_layouts c.args.shape.rank c.args.station
     ≡ true
-laid_out c = sym c.before.good-layouts.ensures ∙ not-false _ c.if2.false
+laid_out c = sym c.good_layouts.ensures ∙ not-false _ c.if-not-good_layouts.false
 
-good-count-requires : tie.Need-good-count-requires
+good-count-requires : tie.Need-good_count-requires
 good-count-requires c κs = search rules
 
-good-parent-requires : tie.Need-good-parent-requires
+good-parent-requires : tie.Need-good_parent-requires
 good-parent-requires c κs = search rules
 
 both-requires : tie.Need-both-requires
 both-requires c κs = search rules
 
-returns : tie.Need-returns
-returns c = broken-numbers _ _ _ _ _ (sym (numbers-are c.before) ∙ not-true _ c.if1.true)
+returns : tie.Need-returns-then-not-both
+returns c = broken-numbers _ _ _ _ _ (sym (numbers-are c.before) ∙ not-true _ c.if-not-both.true-raw)
 
-good-layouts-requires : tie.Need-good-layouts-requires
+good-layouts-requires : tie.Need-good_layouts-requires
 good-layouts-requires c κs =
     let s = c.before.before.before.before in
     (count_low s.args.station (counted c)).1
 
-returns-2 : tie.Need-returns-2
-returns-2 c = broken-layouts _ _ _ _ _ (numbered c.before.before) (sym c.before.good-layouts.ensures ∙ not-true _ c.if2.true)
+returns-2 : tie.Need-returns-then-not-good_layouts
+returns-2 c = broken-layouts _ _ _ _ _ (numbered c.before.before) (sym c.good_layouts.ensures ∙ not-true _ c.if-not-good_layouts.true-raw)
 
 both-requires-2 : tie.Need-both-requires-2
 both-requires-2 c κs = search rules
 
-returns-3 : tie.Need-returns-3
+returns-3 : tie.Need-returns-then-not-both-2
 returns-3 c =
     let e = c.before.before in
-    broken-before _ _ _ _ _ (numbered e.before.before) (laid_out e) (sym c.before.both2.ensures ∙ not-true _ c.if3.true)
+    broken-before _ _ _ _ _ (numbered e.before.before) (laid_out e) (sym c.both-2.ensures ∙ not-true _ c.if-not-both-2.true-raw)
 
 enter-requires : tie.Need-enter-requires
 enter-requires c κs =
     let e = c.before.before in
     let s = e.before.before.before.before.before.before in
-    let k = sym c.before.both2.ensures ∙ not-false _ c.if3.false in
+    let k = sym c.both-2.ensures ∙ not-false _ c.if-not-both-2.false-raw in
     let h = s.args.loaded in
     let a = and_left h.numbers_kept h.layouts_kept k in
     let b = and_right h.numbers_kept h.layouts_kept k in (
@@ -70,7 +70,7 @@ enter-requires c κs =
       ),
     )
 
-returns-4 : tie.Need-returns-4
+returns-4 : tie.Need-returns
 returns-4 c = c.enter.ensures
 
 pub add_spec : {M : Type 1} → statement M

@@ -7,5 +7,5 @@ use Rattle.route.proofs.load.empty.Tie as tie
 returns : tie.Need-returns
 returns c = started _ refl refl refl refl refl refl refl refl
 
-pub empty-spec : {M : Type 1} → statement M
-empty-spec = tie.close (tie.spec returns)
+pub empty_spec : {M : Type 1} → statement M
+empty_spec = tie.close (tie.spec returns)

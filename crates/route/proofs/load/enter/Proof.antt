@@ -25,45 +25,45 @@ sizes-long s = search rules
 moved-long : (s : tie.Start) → length s.args.loaded.moved ≡ 4096
 moved-long s = search rules
 
-station-repeat-requires : tie.Need-station-repeat-requires
+station-repeat-requires : tie.Need-station_repeat-requires
 station-repeat-requires c κs = fit c
 
-first-refusal-requires : tie.Need-first-refusal-requires
+first-refusal-requires : tie.Need-first_refusal-repeat-requires
 first-refusal-requires c κs = search rules
 
-feeding-station-requires : tie.Need-feeding-station-requires
+feeding-station-requires : tie.Need-feeding_station-requires
 feeding-station-requires c κs = search rules
 
-mul-parents : tie.Need-overflow-mul-parents
+mul-parents : tie.Need-offset_bounds-parents-i
 mul-parents c = search rules
 
-array-write-parents : tie.Need-array-write-parents
+array-write-parents : tie.Need-bounds-parents-i
 array-write-parents c = search rules
 
-mul-counts : tie.Need-overflow-mul-counts
+mul-counts : tie.Need-offset_bounds-counts-i
 mul-counts c = search rules
 
-array-write-counts : tie.Need-array-write-counts
+array-write-counts : tie.Need-bounds-counts-i
 array-write-counts c = search rules
 
-mul-enter-moves : tie.Need-overflow-mul-enter-moves
+mul-enter-moves : tie.Need-overflow_mul-i
 mul-enter-moves c = search rules
 
-slice-aggregate-enter-moves : tie.Need-slice-aggregate-enter-moves
+slice-aggregate-enter-moves : tie.Need-slice_bounds-enter_moves-end
 slice-aggregate-enter-moves c = search rules
 
-enter-moves-requires : tie.Need-enter-moves-requires
+enter-moves-requires : tie.Need-enter_moves-requires
 enter-moves-requires c κs =
     let s = c.before.before.before.before.before.before.before in
     (omega (arith, moved-long s, s.requires.0.1), (s.requires.1.1.1, fit s))
 
-mul-enter-sizes : tie.Need-overflow-mul-enter-sizes
+mul-enter-sizes : tie.Need-overflow_mul-i-2
 mul-enter-sizes c = search rules
 
-slice-aggregate-enter-sizes : tie.Need-slice-aggregate-enter-sizes
+slice-aggregate-enter-sizes : tie.Need-slice_bounds-enter_sizes-end
 slice-aggregate-enter-sizes c = sym (sizes-long c.before.before.before.before.before.before.before.before.before.before.before)
 
-enter-sizes-requires : tie.Need-enter-sizes-requires
+enter-sizes-requires : tie.Need-enter_sizes-kept-requires
 enter-sizes-requires c κs =
     let s = c.before.before.before.before.before.before.before.before.before.before.before in
     ((s.requires.0.0, omega (arith, sizes-long s, s.requires.0.1)), fit s)
@@ -87,13 +87,13 @@ returns c =
       numbers = s.requires.1.1.0.0;
       layouts = s.requires.1.1.0.1;
       few-from = s.requires.1.1.1.few;
-      here = r.before.station-repeat.result;
-      here-is = r.before.station-repeat.ensures;
-      repeat-is = r.first-refusal.ensures;
-      kept-is = c.both.ensures ∙ ap (λ (b : Bool). s.args.loaded.sizes_kept && b) z.enter-sizes.ensures.0;
-      parent_is = f.feeding-station.ensures;
-      sizes-in = z.enter-sizes.ensures.1;
-      moves-in = m.enter-moves.ensures;
+      here = r.station_repeat.result;
+      here-is = r.station_repeat.ensures;
+      repeat-is = r.first_refusal-repeat.ensures;
+      kept-is = c.both.ensures ∙ ap (λ (b : Bool). s.args.loaded.sizes_kept && b) z.enter_sizes-kept.ensures.0;
+      parent_is = f.feeding_station.ensures;
+      sizes-in = z.enter_sizes-kept.ensures.1;
+      moves-in = m.enter_moves.ensures;
     })
 
 pub enter_spec : {M : Type 1} → statement M

@@ -26,72 +26,72 @@ small s ls k = leb (padded_of s (get_or ls k blank_layout)) max_count
 abbrev capped : Shape → List Layout → ℕ → ℕ
 capped s ls k = min (padded_of s (get_or ls k blank_layout)) (max_count + 1)
 
-abbrev invariant-loop : tie.invariant-loop
+abbrev invariant-loop : tie.invariant-loop-a
 invariant-loop shape at sizes₀ count layouts kept₀ a₀ sizes kept a = (a ≤ count) × (kept ≡ every (small shape layouts) a) × Filled sizes₀ sizes at a (capped shape layouts)
 
-abbrev decreases-loop : tie.decreases-loop
+abbrev decreases-loop : tie.decreases-loop-a
 decreases-loop shape at sizes₀ count layouts kept₀ a₀ sizes kept a = count - a
 
-abbrev start : tie.In-loop invariant-loop decreases-loop → tie.Start invariant-loop decreases-loop
+abbrev start : tie.In-loop-a invariant-loop decreases-loop → tie.Start invariant-loop decreases-loop
 start c = c.before.before.before.before
 
-loop-holds : tie.Need-loop-init invariant-loop decreases-loop
+loop-holds : tie.Need-loop-a-init invariant-loop decreases-loop
 loop-holds c = (omega arith, refl, filled-start _ _ _)
 
-mul-padded-capped : tie.Need-overflow-mul-padded-capped invariant-loop decreases-loop
+mul-padded-capped : tie.Need-offset_bounds-layouts-a invariant-loop decreases-loop
 mul-padded-capped c = search rules
 
-array-copy-out-padded-capped : tie.Need-array-copy-out-padded-capped invariant-loop decreases-loop
+array-copy-out-padded-capped : tie.Need-bounds-layouts-a invariant-loop decreases-loop
 array-copy-out-padded-capped c = search rules
 
-padded-capped-requires : tie.Need-padded-capped-requires invariant-loop decreases-loop
+padded-capped-requires : tie.Need-padded_capped-size-requires invariant-loop decreases-loop
 padded-capped-requires c κs =
     let i = c.before in
-    ((start i).requires.0.0, (start i).requires.1.good i.before.loop.a i.loop-test.true)
+    ((start i).requires.0.0, (start i).requires.1.good i.loop-a.a i.loop-a-test.true)
 
-add-sizes : tie.Need-overflow-add-sizes invariant-loop decreases-loop
+add-sizes : tie.Need-overflow_add-sizes invariant-loop decreases-loop
 add-sizes c = search rules
 
-mul-sizes : tie.Need-overflow-mul-sizes invariant-loop decreases-loop
+mul-sizes : tie.Need-offset_bounds-sizes-at invariant-loop decreases-loop
 mul-sizes c = search rules
 
-slice-write-sizes : tie.Need-slice-write-sizes invariant-loop decreases-loop
-slice-write-sizes c = omega (arith, c.before.before.before.loop.invariant.2.long)
+slice-write-sizes : tie.Need-bounds-sizes-at invariant-loop decreases-loop
+slice-write-sizes c = omega (arith, c.loop-a.invariant.2.long)
 
-add_a : tie.Need-overflow-add-a invariant-loop decreases-loop
+add_a : tie.Need-overflow_add-a invariant-loop decreases-loop
 add_a c = search rules
 
-loop-less : tie.Need-loop-smaller invariant-loop decreases-loop
+loop-less : tie.Need-loop-a-smaller invariant-loop decreases-loop
 loop-less c = search rules
 
-loop-again : tie.Need-loop-preserved invariant-loop decreases-loop
+loop-again : tie.Need-loop-a-preserved invariant-loop decreases-loop
 loop-again c =
     let p = c.before in
     let i = p.before.before in
-    let a = i.before.loop.a in
+    let a = i.loop-a.a in
     let f = small (start i).args.shape (start i).args.station.layouts in (
       omega arith,
       ⊎_elim
-          (λ w. w.1 ∙ sym (now-broken (every f a) (f a) (every-next f a) (lt-leb _ _ (over-cap _ _ p.padded-capped.ensures w.0.taken))))
-          (λ w. w.1 ∙ i.before.loop.invariant.1 ∙ sym (still_kept (every f a) (f a) (every-next f a) (le-leb _ _ (under-cap _ _ p.padded-capped.ensures w.0.left))))
-          c.if1.branch,
-      filled_next _ i.before.loop.invariant.2 (omega (arith, i.before.loop.invariant.2.long)) p.padded-capped.ensures,
+          (λ w. w.1 ∙ sym (now-broken (every f a) (f a) (every-next f a) (lt-leb _ _ (over-cap _ _ p.padded_capped-size.ensures w.0.taken))))
+          (λ w. w.1 ∙ i.loop-a.invariant.1 ∙ sym (still_kept (every f a) (f a) (every-next f a) (le-leb _ _ (under-cap _ _ p.padded_capped-size.ensures w.0.left))))
+          c.if-size-gt-MAX_COUNT.branch,
+      filled_next _ i.loop-a.invariant.2 (omega (arith, i.loop-a.invariant.2.long)) p.padded_capped-size.ensures,
     )
 
-same_length : tie.Need-same-length invariant-loop decreases-loop
-same_length c = c.before.loop.invariant.2.long
+same_length : tie.Need-shape_of-sizes invariant-loop decreases-loop
+same_length c = c.loop-a.invariant.2.long
 
 returns : tie.Need-returns invariant-loop decreases-loop
 returns c =
     let l = c.before in
     let s = l.before.before.before in
-    let e : l.loop.a ≡ s.args.station.count = omega arith in (
-      l.loop.invariant.1 ∙ ap (every (small s.args.shape s.args.station.layouts)) e,
-      subst (λ (n : ℕ). Filled s.args.sizes.now l.loop.sizes s.args.at n (capped s.args.shape s.args.station.layouts)) e l.loop.invariant.2,
+    let e : l.loop-a.a ≡ s.args.station.count = omega arith in (
+      l.loop-a.invariant.1 ∙ ap (every (small s.args.shape s.args.station.layouts)) e,
+      subst (λ (n : ℕ). Filled s.args.sizes.now l.loop-a.sizes s.args.at n (capped s.args.shape s.args.station.layouts)) e l.loop-a.invariant.2,
     )
 
-pub enter-sizes-spec : {M : Type 1} → statement M
-enter-sizes-spec =
+pub enter_sizes_spec : {M : Type 1} → statement M
+enter_sizes_spec =
     tie.close
     (tie.spec
     invariant-loop

@@ -13,11 +13,11 @@ later : (i : ℕ) (x : Station) → 0 < i → ltb x.parent i ≡ good_parent i x
 later zero x l = absurd (omega arith)
 later (suc i) x l = refl
 
-returns : tie.Need-returns
+returns : tie.Need-returns-then-i-eq0
 returns c = search rules
 
-returns-2 : tie.Need-returns-2
-returns-2 c = let s = c.before.before in later s.args.i s.args.station (omega (arith, c.before.if1.false))
+returns-2 : tie.Need-returns
+returns-2 c = let s = c.before.before in later s.args.i s.args.station (omega (arith, c.if-i-eq0.false))
 
-pub good-parent-spec : {M : Type 1} → statement M
-good-parent-spec = tie.close (tie.spec returns returns-2)
+pub good_parent_spec : {M : Type 1} → statement M
+good_parent_spec = tie.close (tie.spec returns returns-2)

@@ -25,10 +25,10 @@ use Rattle.route.proofs.repeats.station_repeat.Tie as tie
 abbrev same : List Layout → ℕ → ℕ → Bool
 same layouts a b = same_layout (get_or layouts a blank_layout) (get_or layouts b blank_layout)
 
-abbrev invariant-loop : tie.invariant-loop
+abbrev invariant-loop : tie.invariant-loop-earlier
 invariant-loop rank i count layouts earlier₀ later earlier = (a : ℕ) → a < earlier → same layouts a later ≡ false
 
-abbrev decreases-loop : tie.decreases-loop
+abbrev decreases-loop : tie.decreases-loop-earlier
 decreases-loop rank i count layouts earlier₀ later earlier = later - earlier
 
 abbrev invariant-search : tie.invariant-search
@@ -40,38 +40,38 @@ decreases-search rank i count layouts earlier₀ later₀ earlier later = count 
 search-holds : tie.Need-search-init invariant-loop decreases-loop invariant-search decreases-search
 search-holds c = (search rules, below_none _)
 
-loop-holds : tie.Need-loop-init invariant-loop decreases-loop invariant-search decreases-search
+loop-holds : tie.Need-loop-earlier-init invariant-loop decreases-loop invariant-search decreases-search
 loop-holds c = below_none _
 
-mul-same-layout : tie.Need-overflow-mul-same-layout invariant-loop decreases-loop invariant-search decreases-search
+mul-same-layout : tie.Need-offset_bounds-layouts-earlier invariant-loop decreases-loop invariant-search decreases-search
 mul-same-layout c = search rules
 
-array-copy-out-same-layout : tie.Need-array-copy-out-same-layout invariant-loop decreases-loop invariant-search decreases-search
+array-copy-out-same-layout : tie.Need-bounds-layouts-earlier invariant-loop decreases-loop invariant-search decreases-search
 array-copy-out-same-layout c = search rules
 
-mul-same-layout-2 : tie.Need-overflow-mul-same-layout-2 invariant-loop decreases-loop invariant-search decreases-search
+mul-same-layout-2 : tie.Need-offset_bounds-layouts-later invariant-loop decreases-loop invariant-search decreases-search
 mul-same-layout-2 c = search rules
 
-array-copy-out-same-layout-2 : tie.Need-array-copy-out-same-layout-2 invariant-loop decreases-loop invariant-search decreases-search
+array-copy-out-same-layout-2 : tie.Need-bounds-layouts-later invariant-loop decreases-loop invariant-search decreases-search
 array-copy-out-same-layout-2 c = search rules
 
-same-layout-requires : tie.Need-same-layout-requires invariant-loop decreases-loop invariant-search decreases-search
+same-layout-requires : tie.Need-same_layout-requires invariant-loop decreases-loop invariant-search decreases-search
 same-layout-requires c κs =
     let l = c.before.before in
     let i = l.before.before in
     let s = i.before.before.before in
-    (s.requires.good l.before.loop.earlier (omega (arith, l.loop-test.true, i.search-test.true)), s.requires.good i.before.search.later i.search-test.true)
+    (s.requires.good l.loop-earlier.earlier (omega (arith, l.loop-earlier-test.true, i.search-test.true)), s.requires.good i.search.later i.search-test.true)
 
-add-earlier : tie.Need-overflow-add-earlier invariant-loop decreases-loop invariant-search decreases-search
+add-earlier : tie.Need-overflow_add-earlier invariant-loop decreases-loop invariant-search decreases-search
 add-earlier c = search rules
 
-loop-less : tie.Need-loop-smaller invariant-loop decreases-loop invariant-search decreases-search
+loop-less : tie.Need-loop-earlier-smaller invariant-loop decreases-loop invariant-search decreases-search
 loop-less c = search rules
 
-loop-again : tie.Need-loop-preserved invariant-loop decreases-loop invariant-search decreases-search
-loop-again c = below_more _ _ c.before.before.before.before.before.loop.invariant (sym c.before.same_layout.ensures ∙ c.if1.false)
+loop-again : tie.Need-loop-earlier-preserved invariant-loop decreases-loop invariant-search decreases-search
+loop-again c = below_more _ _ c.loop-earlier.invariant (sym c.same_layout.ensures ∙ c.if-same_layout.false)
 
-add-later : tie.Need-overflow-add-later invariant-loop decreases-loop invariant-search decreases-search
+add-later : tie.Need-overflow_add-later invariant-loop decreases-loop invariant-search decreases-search
 add-later c = search rules
 
 search-less : tie.Need-search-smaller invariant-loop decreases-loop invariant-search decreases-search
@@ -81,27 +81,27 @@ search-again : tie.Need-search-preserved invariant-loop decreases-loop invariant
 search-again c =
     let l = c.before.before.before in (
       search rules,
-      below_more _ _ l.search.invariant.1 (no-repeat (same_at l.before.before.args.station) l.search.later (λ a h. c.before.loop.invariant a (omega arith))),
+      below_more _ _ l.search.invariant.1 (no-repeat (same_at l.args.station) l.search.later (λ a h. c.loop-earlier.invariant a (omega arith))),
     )
 
-returns : tie.Need-returns invariant-loop decreases-loop invariant-search decreases-search
+returns : tie.Need-returns-then-later-count invariant-loop decreases-loop invariant-search decreases-search
 returns c =
     let s = c.before.before in
-    let x = s.before.before.args.station in
-    let i = s.before.before.args.i in
+    let x = s.args.station in
+    let i = s.args.i in
     ⊎_elim
-    (λ w. absurd (omega (arith, w.0.left, c.if2.true)))
+    (λ w. absurd (omega (arith, w.0.left, c.if-later-count.true)))
     (λ w. subst (λ (e : ℕ). Refused (RepeatedLayout i e s.search.later) ≡ station_repeat x i) (sym w.7)
     (station-found x i (first-repeat (same_at x) x.count w.1.earlier s.search.later w.2.taken w.0.taken (sym w.5.ensures ∙ w.6.taken) w.1.inv s.search.invariant.1)))
-    c.before.search-test.branch
+    c.search-test.branch
 
-returns-2 : tie.Need-returns-2 invariant-loop decreases-loop invariant-search decreases-search
+returns-2 : tie.Need-returns-else-later-count invariant-loop decreases-loop invariant-search decreases-search
 returns-2 c =
     let s = c.before.before in
-    station-free s.before.before.args.station s.before.before.args.i (λ k l. s.search.invariant.1 k (omega (arith, c.if2.false)))
+    station-free s.args.station s.args.i (λ k l. s.search.invariant.1 k (omega (arith, c.if-later-count.false)))
 
-pub station-repeat-spec : {M : Type 1} → statement M
-station-repeat-spec =
+pub station_repeat_spec : {M : Type 1} → statement M
+station_repeat_spec =
     tie.close
     (tie.spec
     invariant-loop

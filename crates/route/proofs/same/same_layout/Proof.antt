@@ -18,51 +18,51 @@ second s = kept_of _ _ (record { order = search rules; lens = search rules; tile
 
 -- what `same_list` answered
 orders :
-    (c : tie.After-same-list) →
-    c.same-list.result
-    ≡ same_list (minor_to_major c.before.before.before.before.before.args.a) (minor_to_major c.before.before.before.before.before.args.b)
+    (c : tie.After-same_list) →
+    c.same_list.result
+    ≡ same_list (minor_to_major c.args.a) (minor_to_major c.args.b)
 orders c =
     let s = c.before.before.before.before.before in
-    c.same-list.ensures ∙ ap₂ same_list (first s).read (second s).read
+    c.same_list.ensures ∙ ap₂ same_list (first s).read (second s).read
 
-array-share-prefix-x : tie.Need-array-share-prefix-x
+array-share-prefix-x : tie.Need-slice_bounds-x-end
 array-share-prefix-x c = (first c.before.before).room
 
-slice-aggregate-same-list : tie.Need-slice-aggregate-same-list
+slice-aggregate-same-list : tie.Need-slice_bounds-same_list-end
 slice-aggregate-same-list c = sym (first c.before.before.before).long
 
-array-share-prefix-y : tie.Need-array-share-prefix-y
+array-share-prefix-y : tie.Need-slice_bounds-y-end
 array-share-prefix-y c = (second c.before.before.before).room
 
-slice-aggregate-same-list-2 : tie.Need-slice-aggregate-same-list-2
+slice-aggregate-same-list-2 : tie.Need-slice_bounds-same_list-end-2
 slice-aggregate-same-list-2 c = sym (second c.before.before.before.before).long
 
-same-list-requires : tie.Need-same-list-requires
+same-list-requires : tie.Need-same_list-requires
 same-list-requires c κs = search rules
 
-returns : tie.Need-returns
+returns : tie.Need-returns-then-not-same_list
 unfolding same_layout
-returns c = rw (sym (orders c.before) ∙ not-true c.before.same-list.result c.if1.true)
+returns c = rw (sym (orders c.before) ∙ not-true c.same_list.result c.if-not-same_list.true-raw)
 
-array-share-prefix-lens : tie.Need-array-share-prefix-lens
+array-share-prefix-lens : tie.Need-slice_bounds-lens-end
 array-share-prefix-lens c = (first c.before.before.before.before.before.before.before.before.before.before).tile-room
 
-slice-aggregate-same-tiles : tie.Need-slice-aggregate-same-tiles
+slice-aggregate-same-tiles : tie.Need-slice_bounds-same_tiles-end
 slice-aggregate-same-tiles c = sym (first c.before.before.before.before.before.before.before.before.before.before.before).tile-long
 
-slice-aggregate-same-tiles-2 : tie.Need-slice-aggregate-same-tiles-2
+slice-aggregate-same-tiles-2 : tie.Need-slice_bounds-same_tiles-end-2
 slice-aggregate-same-tiles-2 c = search rules
 
-array-share-prefix-lens2 : tie.Need-array-share-prefix-lens2
+array-share-prefix-lens2 : tie.Need-slice_bounds-lens2-end
 array-share-prefix-lens2 c = (second c.before.before.before.before.before.before.before.before.before.before.before.before).tile-room
 
-slice-aggregate-same-tiles-3 : tie.Need-slice-aggregate-same-tiles-3
+slice-aggregate-same-tiles-3 : tie.Need-slice_bounds-same_tiles-end-3
 slice-aggregate-same-tiles-3 c = sym (second c.before.before.before.before.before.before.before.before.before.before.before.before.before).tile-long
 
-slice-aggregate-same-tiles-4 : tie.Need-slice-aggregate-same-tiles-4
+slice-aggregate-same-tiles-4 : tie.Need-slice_bounds-same_tiles-end-4
 slice-aggregate-same-tiles-4 c = search rules
 
-same-tiles-requires : tie.Need-same-tiles-requires
+same-tiles-requires : tie.Need-same_tiles-requires
 same-tiles-requires c κs =
     let s = c.before.before.before.before.before.before.before.before.before.before.before.before.before.before in (
       (omega (arith, (first s).tile-long, (first s).tiles), search rules, search rules),
@@ -72,14 +72,14 @@ same-tiles-requires c κs =
       ),
     )
 
-returns-2 : tie.Need-returns-2
+returns-2 : tie.Need-returns
 unfolding same_layout
 returns-2 c =
     let l = c.before.before.before.before.before.before.before.before.before in
-    rw (sym (orders l.before) ∙ not-false l.before.same-list.result l.if1.false) c.same-tiles.ensures
+    rw (sym (orders l.before) ∙ not-false l.same_list.result l.if-not-same_list.false-raw) c.same_tiles.ensures
 
-pub same-layout-spec : {M : Type 1} → statement M
-same-layout-spec =
+pub same_layout_spec : {M : Type 1} → statement M
+same_layout_spec =
     tie.close
     (tie.spec
     array-share-prefix-x

@@ -12,53 +12,53 @@ use Rattle.route.proofs.Written.{other_length, same-at, same_end}
 use Rattle.route.proofs.same.same_list.Statement.{statement}
 use Rattle.route.proofs.same.same_list.Tie as tie
 
-abbrev invariant-loop : tie.invariant-loop
+abbrev invariant-loop : tie.invariant-loop-i
 invariant-loop xs ys i₀ i = (i ≤ length xs) × (same_list (drop i xs) (drop i ys) ≡ same_list xs ys)
 
-abbrev decreases-loop : tie.decreases-loop
+abbrev decreases-loop : tie.decreases-loop-i
 decreases-loop xs ys i₀ i = length xs - i
 
-returns : tie.Need-returns invariant-loop decreases-loop
-returns c = sym (other_length eqb _ _ c.if1.true)
+returns : tie.Need-returns-then-xs-ys invariant-loop decreases-loop
+returns c = sym (other_length eqb _ _ c.if-xs-ys.true)
 
-loop-holds : tie.Need-loop-init invariant-loop decreases-loop
+loop-holds : tie.Need-loop-i-init invariant-loop decreases-loop
 loop-holds c = (omega arith, refl)
 
-mul-if2 : tie.Need-overflow-mul-if2 invariant-loop decreases-loop
+mul-if2 : tie.Need-offset_bounds-xs-i invariant-loop decreases-loop
 mul-if2 c = search rules
 
-shared-slice-read-if2 : tie.Need-shared-slice-read-if2 invariant-loop decreases-loop
+shared-slice-read-if2 : tie.Need-bounds-xs-i invariant-loop decreases-loop
 shared-slice-read-if2 c = search rules
 
-mul-if2-2 : tie.Need-overflow-mul-if2-2 invariant-loop decreases-loop
+mul-if2-2 : tie.Need-offset_bounds-ys-i invariant-loop decreases-loop
 mul-if2-2 c = search rules
 
-shared-slice-read-if2-2 : tie.Need-shared-slice-read-if2-2 invariant-loop decreases-loop
+shared-slice-read-if2-2 : tie.Need-bounds-ys-i invariant-loop decreases-loop
 shared-slice-read-if2-2 c = search rules
 
-returns-2 : tie.Need-returns-2 invariant-loop decreases-loop
+returns-2 : tie.Need-returns-then-xs-i invariant-loop decreases-loop
 returns-2 c =
-    let l = c.before.before.before.before.loop in
-    sym (sym l.invariant.1 ∙ same-at _ _ l.i (omega arith) (omega arith) ∙ ap (λ (b : Bool). b && same_list (drop (l.i + 1) c.before.before.before.before.before.before.args.xs.now) (drop (l.i + 1) c.before.before.before.before.before.before.args.ys.now)) (ne_eqb _ _ c.if2.true))
+    let l = c.loop-i in
+    sym (sym l.invariant.1 ∙ same-at _ _ l.i (omega arith) (omega arith) ∙ ap (λ (b : Bool). b && same_list (drop (l.i + 1) c.args.xs.now) (drop (l.i + 1) c.args.ys.now)) (ne_eqb _ _ c.if-xs-i.true))
 
-add-i : tie.Need-overflow-add-i invariant-loop decreases-loop
+add-i : tie.Need-overflow_add-i invariant-loop decreases-loop
 add-i c = search rules
 
-loop-less : tie.Need-loop-smaller invariant-loop decreases-loop
+loop-less : tie.Need-loop-i-smaller invariant-loop decreases-loop
 loop-less c = search rules
 
-loop-again : tie.Need-loop-preserved invariant-loop decreases-loop
+loop-again : tie.Need-loop-i-preserved invariant-loop decreases-loop
 loop-again c =
-    let l = c.before.before.before.before.loop in (
+    let l = c.loop-i in (
       omega arith,
-      sym (sym l.invariant.1 ∙ same-at _ _ l.i (omega arith) (omega arith) ∙ ap (λ (b : Bool). b && same_list (drop (l.i + 1) c.before.before.before.before.before.before.args.xs.now) (drop (l.i + 1) c.before.before.before.before.before.before.args.ys.now)) (eq-eqb _ _ c.if2.false)),
+      sym (sym l.invariant.1 ∙ same-at _ _ l.i (omega arith) (omega arith) ∙ ap (λ (b : Bool). b && same_list (drop (l.i + 1) c.args.xs.now) (drop (l.i + 1) c.args.ys.now)) (eq-eqb _ _ c.if-xs-i.false)),
     )
 
-returns-3 : tie.Need-returns-3 invariant-loop decreases-loop
-returns-3 c = sym (sym c.before.loop.invariant.1 ∙ same_end _ _ c.before.loop.i (omega arith) (omega arith))
+returns-3 : tie.Need-returns invariant-loop decreases-loop
+returns-3 c = sym (sym c.loop-i.invariant.1 ∙ same_end _ _ c.loop-i.i (omega arith) (omega arith))
 
-pub same-list-spec : {M : Type 1} → statement M
-same-list-spec =
+pub same_list_spec : {M : Type 1} → statement M
+same_list_spec =
     tie.close
     (tie.spec
     invariant-loop

@@ -14,32 +14,32 @@ use Rattle.route.proofs.Written.{tiles_after, tile_at, same-tile, last-tile, oth
 use Rattle.route.proofs.same.same_tiles.Statement.{statement}
 use Rattle.route.proofs.same.same_tiles.Tie as tie
 
-abbrev invariant-loop : tie.invariant-loop
+abbrev invariant-loop : tie.invariant-loop-l
 invariant-loop lens flat lens2 flat2 l₀ l = (l ≤ length lens) × (same_tiles (tiles_after lens flat l) (tiles_after lens2 flat2 l) ≡ same_tiles (tiles_from lens flat) (tiles_from lens2 flat2))
 
-abbrev decreases-loop : tie.decreases-loop
+abbrev decreases-loop : tie.decreases-loop-l
 decreases-loop lens flat lens2 flat2 l₀ l = length lens - l
 
-abbrev start : tie.In-loop invariant-loop decreases-loop → tie.Start invariant-loop decreases-loop
+abbrev start : tie.In-loop-l invariant-loop decreases-loop → tie.Start invariant-loop decreases-loop
 start c = c.before.before.before.before.before.before.before
 
-abbrev L : tie.In-loop invariant-loop decreases-loop → ℕ
-L c = c.before.loop.l
+abbrev L : tie.In-loop-l invariant-loop decreases-loop → ℕ
+L c = c.loop-l.l
 
-abbrev Tile : tie.In-loop invariant-loop decreases-loop → List ℕ
+abbrev Tile : tie.In-loop-l invariant-loop decreases-loop → List ℕ
 Tile c = tile_at (start c).args.lens.now (start c).args.flat.now (L c)
 
-abbrev Tile2 : tie.In-loop invariant-loop decreases-loop → List ℕ
+abbrev Tile2 : tie.In-loop-l invariant-loop decreases-loop → List ℕ
 Tile2 c = tile_at (start c).args.lens2.now (start c).args.flat2.now (L c)
 
-abbrev rest : tie.In-loop invariant-loop decreases-loop → Bool
+abbrev rest : tie.In-loop-l invariant-loop decreases-loop → Bool
 rest c =
     same_tiles (tiles_after (start c).args.lens.now (start c).args.flat.now (L c + 1))
     (tiles_after (start c).args.lens2.now (start c).args.flat2.now (L c + 1))
 
 -- the tile and its entries are in their places
 small :
-    (c : tie.In-loop invariant-loop decreases-loop) →
+    (c : tie.In-loop-l invariant-loop decreases-loop) →
     (L c ≤ 2)
     × (L c + 1 ≤ length (start c).args.lens2.now)
     × (max_entries * L c + get_or (start c).args.lens.now (L c) 0 ≤ length (start c).args.flat.now)
@@ -49,106 +49,106 @@ small :
 unfolding Upto
 small c =
     let s = start c in
-    let a = s.pre.1.0 (L c) in
-    let b = s.pre.1.1 (L c) in
+    let a = s.requires.1.0 (L c) in
+    let b = s.requires.1.1 (L c) in
     (omega arith, omega arith, omega arith, omega arith, omega arith, omega arith)
 
 -- the answer, at tile l
 turn :
-    (c : tie.In-loop invariant-loop decreases-loop) →
+    (c : tie.In-loop-l invariant-loop decreases-loop) →
     (same_list (Tile c) (Tile2 c) && rest c)
     ≡ same_tiles (tiles_from (start c).args.lens.now (start c).args.flat.now) (tiles_from (start c).args.lens2.now (start c).args.flat2.now)
-turn c = sym (same-tile _ (start c).args.flat.now _ (start c).args.flat2.now (L c) (omega arith) (omega arith)) ∙ c.before.loop.invariant.1
+turn c = sym (same-tile _ (start c).args.flat.now _ (start c).args.flat2.now (L c) (omega arith) (omega arith)) ∙ c.loop-l.invariant.1
 
 part : (m a : ℕ) (flat : List ℕ) → take (a + m - a) (drop a flat) ≡ take m (drop a flat)
 part m a flat = rw (add-sub_cancel_left a m)
 
 -- what `same_list` answered
-answer : (c : tie.After-same-list invariant-loop decreases-loop) → c.same-list.result ≡ same_list (Tile c.before.before.before.before.before) (Tile2 c.before.before.before.before.before)
+answer : (c : tie.After-same_list invariant-loop decreases-loop) → c.same_list.result ≡ same_list (Tile c.before.before.before.before.before) (Tile2 c.before.before.before.before.before)
 answer c =
     let i = c.before.before.before.before.before in
-    c.same-list.ensures
+    c.same_list.ensures
     ∙ ap₂ same_list (part (get_or (start i).args.lens.now (L i) 0) (max_entries * L i) (start i).args.flat.now)
     (part (get_or (start i).args.lens2.now (L i) 0) (max_entries * L i) (start i).args.flat2.now)
 
-returns : tie.Need-returns invariant-loop decreases-loop
-returns c = sym (other-tiles c.before.before.before.before.before.args.lens.now c.before.before.before.before.before.args.flat.now c.before.before.before.before.before.args.lens2.now c.before.before.before.before.before.args.flat2.now c.if1.true)
+returns : tie.Need-returns-then-lens-lens2 invariant-loop decreases-loop
+returns c = sym (other-tiles c.args.lens.now c.args.flat.now c.args.lens2.now c.args.flat2.now c.if-lens-lens2.true)
 
-loop-holds : tie.Need-loop-init invariant-loop decreases-loop
+loop-holds : tie.Need-loop-l-init invariant-loop decreases-loop
 loop-holds c = (omega arith, refl)
 
-mul-a : tie.Need-overflow-mul-a invariant-loop decreases-loop
+mul-a : tie.Need-overflow_mul-a invariant-loop decreases-loop
 mul-a c = omega (arith, small c)
 
-mul-e : tie.Need-overflow-mul-e invariant-loop decreases-loop
+mul-e : tie.Need-offset_bounds-lens-l invariant-loop decreases-loop
 mul-e c = omega (arith, small c)
 
-shared-slice-read-e : tie.Need-shared-slice-read-e invariant-loop decreases-loop
+shared-slice-read-e : tie.Need-bounds-lens-l invariant-loop decreases-loop
 shared-slice-read-e c = omega (arith, small c.before)
 
-add-e : tie.Need-overflow-add-e invariant-loop decreases-loop
+add-e : tie.Need-overflow_add-e invariant-loop decreases-loop
 add-e c = omega (arith, small c.before)
 
-mul-o : tie.Need-overflow-mul-o invariant-loop decreases-loop
+mul-o : tie.Need-offset_bounds-lens2-l invariant-loop decreases-loop
 mul-o c = omega (arith, small c.before)
 
-shared-slice-read-o : tie.Need-shared-slice-read-o invariant-loop decreases-loop
+shared-slice-read-o : tie.Need-bounds-lens2-l invariant-loop decreases-loop
 shared-slice-read-o c = omega (arith, small c.before.before)
 
-add-o : tie.Need-overflow-add-o invariant-loop decreases-loop
+add-o : tie.Need-overflow_add-o invariant-loop decreases-loop
 add-o c = omega (arith, small c.before.before)
 
-mul-same-list : tie.Need-overflow-mul-same-list invariant-loop decreases-loop
+mul-same-list : tie.Need-offset_bounds-flat-a invariant-loop decreases-loop
 mul-same-list c = omega (arith, small c.before.before)
 
-sub-same-list : tie.Need-overflow-sub-same-list invariant-loop decreases-loop
+sub-same-list : tie.Need-slice_bounds-same_list-count invariant-loop decreases-loop
 sub-same-list c = omega arith
 
-part-same-list-start : tie.Need-slice-bounds-same-list-start invariant-loop decreases-loop
+part-same-list-start : tie.Need-slice_bounds-same_list-start invariant-loop decreases-loop
 part-same-list-start c = omega arith
 
-part-same-list-end : tie.Need-slice-bounds-same-list-end invariant-loop decreases-loop
+part-same-list-end : tie.Need-slice_bounds-same_list-end invariant-loop decreases-loop
 part-same-list-end c = omega (arith, small c.before.before)
 
-mul-same-list-2 : tie.Need-overflow-mul-same-list-2 invariant-loop decreases-loop
+mul-same-list-2 : tie.Need-offset_bounds-flat2-a invariant-loop decreases-loop
 mul-same-list-2 c = omega (arith, small c.before.before.before)
 
-sub-same-list-2 : tie.Need-overflow-sub-same-list-2 invariant-loop decreases-loop
+sub-same-list-2 : tie.Need-slice_bounds-same_list-count-in-loop-l invariant-loop decreases-loop
 sub-same-list-2 c = omega arith
 
-part-same-list-start-2 : tie.Need-slice-bounds-same-list-start-2 invariant-loop decreases-loop
+part-same-list-start-2 : tie.Need-slice_bounds-same_list-start-in-loop-l invariant-loop decreases-loop
 part-same-list-start-2 c = omega arith
 
-part-same-list-end-2 : tie.Need-slice-bounds-same-list-end-2 invariant-loop decreases-loop
+part-same-list-end-2 : tie.Need-slice_bounds-same_list-end-in-loop-l invariant-loop decreases-loop
 part-same-list-end-2 c = omega (arith, small c.before.before.before)
 
-same-list-requires : tie.Need-same-list-requires invariant-loop decreases-loop
+same-list-requires : tie.Need-same_list-requires invariant-loop decreases-loop
 same-list-requires c κs = search rules
 
-add-l : tie.Need-overflow-add-l invariant-loop decreases-loop
+add-l : tie.Need-overflow_add-l invariant-loop decreases-loop
 add-l c = omega (arith, small c.before.before.before.before.before.before)
 
-loop-less : tie.Need-loop-smaller invariant-loop decreases-loop
+loop-less : tie.Need-loop-l-smaller invariant-loop decreases-loop
 loop-less c = omega arith
 
-loop-again : tie.Need-loop-preserved invariant-loop decreases-loop
+loop-again : tie.Need-loop-l-preserved invariant-loop decreases-loop
 loop-again c =
     let i = c.before.before.before.before.before.before in
-    (omega arith, sym (ap (λ (b : Bool). b && rest i) (sym (answer c.before) ∙ c.if2.true)) ∙ turn i)
+    (omega arith, sym (ap (λ (b : Bool). b && rest i) (sym (answer c.before) ∙ c.if-same_list.true)) ∙ turn i)
 
-returns-2 : tie.Need-returns-2 invariant-loop decreases-loop
+returns-2 : tie.Need-returns-else-same_list invariant-loop decreases-loop
 returns-2 c =
     let i = c.before.before.before.before.before.before in
-    sym (ap (λ (b : Bool). b && rest i) (sym (answer c.before) ∙ c.if2.false)) ∙ turn i
+    sym (ap (λ (b : Bool). b && rest i) (sym (answer c.before) ∙ c.if-same_list.false)) ∙ turn i
 
-returns-3 : tie.Need-returns-3 invariant-loop decreases-loop
+returns-3 : tie.Need-returns invariant-loop decreases-loop
 returns-3 c =
     let l = c.before in
     let s = l.before.before.before.before.before.before in
-    sym (last-tile s.args.lens.now s.args.flat.now s.args.lens2.now s.args.flat2.now l.loop.l (omega arith) (omega arith)) ∙ l.loop.invariant.1
+    sym (last-tile s.args.lens.now s.args.flat.now s.args.lens2.now s.args.flat2.now l.loop-l.l (omega arith) (omega arith)) ∙ l.loop-l.invariant.1
 
-pub same-tiles-spec : {M : Type 1} → statement M
-same-tiles-spec =
+pub same_tiles_spec : {M : Type 1} → statement M
+same_tiles_spec =
     tie.close
     (tie.spec
     invariant-loop

@@ -4,14 +4,14 @@ use Rattle.rules.proofs.Search.{larger-yes, larger-low, larger-high}
 use Rattle.rules.proofs.applying.larger_below.Statement.{statement}
 use Rattle.rules.proofs.applying.larger_below.Tie as tie
 
-returns : tie.Need-returns
-returns c = sym (larger-yes _ _ _ c.before.if1.true c.if2.true)
+returns : tie.Need-returns-then-r-g
+returns c = sym (larger-yes _ _ _ c.if-g-below.true c.if-r-g.true)
 
-returns-2 : tie.Need-returns-2
-returns-2 c = sym (larger-low _ _ _ c.if2.false)
+returns-2 : tie.Need-returns-else-r-g
+returns-2 c = sym (larger-low _ _ _ c.if-r-g.false)
 
-returns-3 : tie.Need-returns-3
-returns-3 c = sym (larger-high _ _ _ c.if1.false)
+returns-3 : tie.Need-returns-else-g-below
+returns-3 c = sym (larger-high _ _ _ c.if-g-below.false)
 
-pub larger-below-spec : {M : Type 1} → statement M
-larger-below-spec = tie.close (tie.spec returns returns-2 returns-3)
+pub larger_below_spec : {M : Type 1} → statement M
+larger_below_spec = tie.close (tie.spec returns returns-2 returns-3)

@@ -7,5 +7,5 @@ use Rattle.rules.proofs.applying.new_op.Tie as tie
 returns : tie.Need-returns
 returns c = rw (to_z-of_z {w = w64} {z = c.args.factor} c.ranges.factor, to_z-of_z {w = w64} {z = c.args.divisor} c.ranges.divisor)
 
-pub new-op-spec : {M : Type 1} → statement M
-new-op-spec = tie.close (tie.spec returns)
+pub new_op_spec : {M : Type 1} → statement M
+new_op_spec = tie.close (tie.spec returns)

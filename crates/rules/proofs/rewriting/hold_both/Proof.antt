@@ -7,13 +7,13 @@ use Rattle.rules.proofs.rewriting.hold_both.Reads as reads
 use Rattle.rules.proofs.rewriting.hold_both.Lts as lts
 use Rattle.words.proofs.copy.Reads as copy-reads
 
-copy-requires : tie.Need-copy-requires
+copy-requires : tie.Need-copy-a-requires
 copy-requires c κs = search rules
 
-copy-requires-2 : tie.Need-copy-requires-2
+copy-requires-2 : tie.Need-copy-requires
 copy-requires-2 c κs = search rules
 
-same_length : tie.Need-same-length
+same_length : tie.Need-shape_of-w
 same_length c = search rules
 
 returns : tie.Need-returns
@@ -21,7 +21,7 @@ returns c =
     let second = c.before in
     let first = second.before.before.before in
     let s = first.before.before in
-    holds _ _ _ _ _ _ _ _ _ s.requires.0 s.requires.1 s.requires.2 first.copy.ensures second.copy2.ensures
+    holds _ _ _ _ _ _ _ _ _ s.requires.0 s.requires.1 s.requires.2 first.copy-a.ensures second.copy.ensures
 
-pub hold-both-spec : {M : Type 1} → statement M
-hold-both-spec = tie.close (tie.spec copy-requires copy-requires-2 same_length returns)
+pub hold_both_spec : {M : Type 1} → statement M
+hold_both_spec = tie.close (tie.spec copy-requires copy-requires-2 same_length returns)

@@ -7,11 +7,11 @@ use Rattle.rules.proofs.rewriting.is_small_sum.Reads as reads
 use Rattle.rules.proofs.rewriting.is_small_sum.Lts as lts
 use Rattle.words.proofs.reckon.Reads as reckon-reads
 
-reckon-requires : tie.Need-reckon-requires
+reckon-requires : tie.Need-reckon-r-requires
 reckon-requires c κs = search rules
 
 returns : tie.Need-returns
-returns c = judges _ _ _ _ _ _ c.reckon.ensures
+returns c = judges _ _ _ _ _ _ c.reckon-r.ensures
 
-pub is-small-sum-spec : {M : Type 1} → statement M
-is-small-sum-spec = tie.close (tie.spec reckon-requires returns)
+pub is_small_sum_spec : {M : Type 1} → statement M
+is_small_sum_spec = tie.close (tie.spec reckon-requires returns)

@@ -23,7 +23,7 @@ shared-slice-read-d : tie.Need-bounds-list-i invariant-loop decreases-loop
 shared-slice-read-d c = search rules
 
 returns : tie.Need-returns-then-n-d invariant-loop decreases-loop
-returns c = not-below _ _ c.before.before.loop-i-test.true c.if-n-d.true
+returns c = not-below _ _ c.loop-i-test.true c.if-n-d.true
 
 mul-if2 : tie.Need-offset_bounds-met-k invariant-loop decreases-loop
 mul-if2 c = search rules
@@ -34,7 +34,7 @@ array-read-if2 c = search rules
 returns-2 : tie.Need-returns-then-met-k-eq1 invariant-loop decreases-loop
 returns-2 c =
     let e = c.before in
-    met-again _ _ e.before.before.loop-i-test.true _ e.before.before.before.loop-i.invariant.1 e.if-n-d.false c.if-met-k-eq1.true
+    met-again _ _ e.loop-i-test.true _ e.loop-i.invariant.1 e.if-n-d.false c.if-met-k-eq1.true
 
 mul-met : tie.Need-offset_bounds-met-k-in-loop-i invariant-loop decreases-loop
 mul-met c = search rules
@@ -51,10 +51,10 @@ loop-less c = search rules
 loop-again : tie.Need-loop-i-preserved invariant-loop decreases-loop
 loop-again c =
     let e = c.before in
-    (search rules, marked_more _ _ e.before.before.loop-i-test.true _ e.before.before.before.loop-i.invariant.1 e.if-n-d.false c.if-met-k-eq1.false)
+    (search rules, marked_more _ _ e.loop-i-test.true _ e.loop-i.invariant.1 e.if-n-d.false c.if-met-k-eq1.false)
 
 returns-3 : tie.Need-returns invariant-loop decreases-loop
-returns-3 c = marked_all _ _ _ c.loop-i-test.false c.before.loop-i.invariant.1
+returns-3 c = marked_all _ _ _ c.loop-i-test.false c.loop-i.invariant.1
 
 pub each_once_spec : {M : Type 1} → statement M
 each_once_spec =

@@ -52,7 +52,7 @@ loop-less : tie.Need-loop-earlier-smaller invariant-loop decreases-loop invarian
 loop-less c = search rules
 
 loop-again : tie.Need-loop-earlier-preserved invariant-loop decreases-loop invariant-search decreases-search
-loop-again c = (search rules, below_more _ _ c.before.before.before.before.loop-earlier.invariant.1 (ne_eqb _ _ c.if-list-earlier.false))
+loop-again c = (search rules, below_more _ _ c.loop-earlier.invariant.1 (ne_eqb _ _ c.if-list-earlier.false))
 
 add-later : tie.Need-overflow_add-later invariant-loop decreases-loop invariant-search decreases-search
 add-later c = search rules
@@ -63,22 +63,22 @@ search-less c = search rules
 search-again : tie.Need-search-preserved invariant-loop decreases-loop invariant-search decreases-search
 search-again c =
     let l = c.before.before.before in
-    (search rules, below_more _ _ l.search.invariant.1 (no-repeat (same_dimension l.before.args.list.now) l.search.later (λ i h. c.before.loop-earlier.invariant.1 i (omega arith))))
+    (search rules, below_more _ _ l.search.invariant.1 (no-repeat (same_dimension l.args.list.now) l.search.later (λ i h. c.loop-earlier.invariant.1 i (omega arith))))
 
 returns : tie.Need-returns-then-later-list invariant-loop decreases-loop invariant-search decreases-search
 returns c =
     let s = c.before.before in
-    let xs = s.before.args.list.now in
+    let xs = s.args.list.now in
     ⊎_elim
     (λ w. absurd (omega (arith, w.0.left, c.if-later-list.true)))
     (λ w. subst (λ (e : ℕ). At e s.search.later ≡ first_pair xs) (sym w.6)
     (pair-found xs (first-repeat (same_dimension xs) (length xs) w.1.earlier s.search.later w.2.taken w.0.taken (eq-eqb _ _ w.5.taken) w.1.inv.1 s.search.invariant.1)))
-    c.before.search-test.branch
+    c.search-test.branch
 
 returns-2 : tie.Need-returns-else-later-list invariant-loop decreases-loop invariant-search decreases-search
 returns-2 c =
     let s = c.before.before in
-    pair-none s.before.args.list.now (λ k l. s.search.invariant.1 k (omega (arith, c.if-later-list.false)))
+    pair-none s.args.list.now (λ k l. s.search.invariant.1 k (omega (arith, c.if-later-list.false)))
 
 pub first_pair_spec : {M : Type 1} → statement M
 first_pair_spec =

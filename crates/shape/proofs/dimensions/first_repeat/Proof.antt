@@ -15,10 +15,10 @@ enum-known-earlier : tie.Need-enum_known-earlier
 enum-known-earlier c = search rules
 
 returns : tie.Need-returns-in-Nowhere
-returns c = ap pair_answer (sym c.enum_told-1.given.1 ∙ c.before.before.first_pair.ensures) ∙ pair-repeat _
+returns c = ap pair_answer (sym c.in-Nowhere.is ∙ c.first_pair.ensures) ∙ pair-repeat _
 
 returns-2 : tie.Need-returns-in-At
-returns-2 c = ap pair_answer (sym c.before.earlier-1.given.1 ∙ c.before.before.before.first_pair.ensures) ∙ pair-repeat _
+returns-2 c = ap pair_answer (sym c.in-At.is ∙ c.first_pair.ensures) ∙ pair-repeat _
 
 pub first_repeat_spec : {M : Type 1} → statement M
 first_repeat_spec =

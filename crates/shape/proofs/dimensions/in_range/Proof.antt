@@ -32,8 +32,8 @@ returns : tie.Need-returns-then-n-list invariant-loop decreases-loop
 unfolding in_range
 returns c =
     let l = c.before.before.before in
-    let list = l.before.args.list.now in
-    sym (every-not (λ (k : ℕ). ltb (get_or list k 0) l.before.args.n) (length list) l.loop-i.i c.before.before.loop-i-test.true (le-ltb _ _ c.if-n-list.true))
+    let list = l.args.list.now in
+    sym (every-not (λ (k : ℕ). ltb (get_or list k 0) l.args.n) (length list) l.loop-i.i c.loop-i-test.true (le-ltb _ _ c.if-n-list.true))
 
 add-i : tie.Need-overflow_add-i invariant-loop decreases-loop
 add-i c = search rules
@@ -42,14 +42,14 @@ loop-less : tie.Need-loop-i-smaller invariant-loop decreases-loop
 loop-less c = search rules
 
 loop-again : tie.Need-loop-i-preserved invariant-loop decreases-loop
-loop-again c = (search rules, below_more _ _ c.before.before.before.loop-i.invariant.1 (lt-ltb _ _ c.if-n-list.false))
+loop-again c = (search rules, below_more _ _ c.loop-i.invariant.1 (lt-ltb _ _ c.if-n-list.false))
 
 returns-2 : tie.Need-returns invariant-loop decreases-loop
 unfolding in_range
 returns-2 c =
     let l = c.before in
-    let list = l.before.args.list.now in
-    sym (every-all (λ (k : ℕ). ltb (get_or list k 0) l.before.args.n) (length list) (λ k h. l.loop-i.invariant.1 k (omega (arith, c.loop-i-test.false))))
+    let list = l.args.list.now in
+    sym (every-all (λ (k : ℕ). ltb (get_or list k 0) l.args.n) (length list) (λ k h. l.loop-i.invariant.1 k (omega (arith, c.loop-i-test.false))))
 
 pub in_range_spec : {M : Type 1} → statement M
 in_range_spec =

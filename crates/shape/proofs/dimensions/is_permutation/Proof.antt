@@ -28,20 +28,20 @@ enum-told-2 c = search rules
 returns-2 : tie.Need-returns-in-Done
 unfolding is_permutation
 returns-2 c =
-    let f = c.before.before in
-    rw (sym f.before.before.in_range.ensures ∙ f.before.if-in_range.true)
-    (sym (free-done _ (ap verdict_answer (sym c.enum_told-1.given.1) ∙ f.first_repeat.ensures)))
+    let f = c.before in
+    rw (sym f.in_range.ensures ∙ f.if-in_range.true)
+    (sym (free-done _ (ap verdict_answer (sym c.in-Done.is) ∙ f.first_repeat.ensures)))
 
 returns-3 : tie.Need-returns-in-Refused
 unfolding is_permutation
 returns-3 c =
-    let f = c.before.before in
-    rw (sym f.before.before.in_range.ensures ∙ f.before.if-in_range.true)
-    (sym (free-refused _ c.enum_told-in-Refused-1.given.0.0 (ap verdict_answer (sym c.enum_told-in-Refused-1.given.1) ∙ f.first_repeat.ensures)))
+    let f = c.before in
+    rw (sym f.in_range.ensures ∙ f.if-in_range.true)
+    (sym (free-refused _ c.in-Refused.field-0 (ap verdict_answer (sym c.in-Refused.is) ∙ f.first_repeat.ensures)))
 
 returns-4 : tie.Need-returns-else-in_range
 unfolding is_permutation
-returns-4 c = rw (sym c.before.in_range.ensures ∙ c.if-in_range.false)
+returns-4 c = rw (sym c.in_range.ensures ∙ c.if-in_range.false)
 
 pub is_permutation_spec : {M : Type 1} → statement M
 is_permutation_spec =

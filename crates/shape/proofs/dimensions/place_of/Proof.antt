@@ -27,7 +27,7 @@ shared-slice-read-if1 c = search rules
 returns : tie.Need-returns-then-list-i invariant-loop decreases-loop
 returns c =
     let l = c.before.before.before in
-    sym (place_is l.before.args.dimension l.before.args.list.now l.loop-i.i c.before.before.loop-i-test.true c.if-list-i.true l.loop-i.invariant.1)
+    sym (place_is l.args.dimension l.args.list.now l.loop-i.i c.loop-i-test.true c.if-list-i.true l.loop-i.invariant.1)
 
 add-i : tie.Need-overflow_add-i invariant-loop decreases-loop
 add-i c = search rules
@@ -36,13 +36,13 @@ loop-less : tie.Need-loop-i-smaller invariant-loop decreases-loop
 loop-less c = search rules
 
 loop-again : tie.Need-loop-i-preserved invariant-loop decreases-loop
-loop-again c = (search rules, below_more _ _ c.before.before.before.loop-i.invariant.1 c.if-list-i.false)
+loop-again c = (search rules, below_more _ _ c.loop-i.invariant.1 c.if-list-i.false)
 
 returns-2 : tie.Need-returns invariant-loop decreases-loop
 returns-2 c =
     let l = c.before in
-    let e : l.loop-i.i ≡ length l.before.args.list.now = omega arith in
-    e ∙ sym (place_none l.before.args.dimension l.before.args.list.now (λ k h. l.loop-i.invariant.1 k (omega (arith, c.loop-i-test.false))))
+    let e : l.loop-i.i ≡ length l.args.list.now = omega arith in
+    e ∙ sym (place_none l.args.dimension l.args.list.now (λ k h. l.loop-i.invariant.1 k (omega (arith, c.loop-i-test.false))))
 
 pub place_of_spec : {M : Type 1} → statement M
 place_of_spec =

@@ -5,8 +5,8 @@ use Rattle.shape.proofs.Limits.{Limits, limits, whole}
 use Rattle.shape.proofs.inner.count_of.Statement.{statement}
 use Rattle.shape.proofs.inner.count_of.Tie as tie
 
-good : (c : tie.After-sizes-1) → Limits c.before.args.shape
-good c = limits c.before.args.shape (search rules) c.before.requires
+good : (c : tie.After-sizes-1) → Limits c.args.shape
+good c = limits c.args.shape (search rules) c.requires
 
 array-share-prefix-sizes : tie.Need-slice_bounds-sizes-end
 array-share-prefix-sizes c = (good c).room
@@ -15,7 +15,7 @@ slice-aggregate-product : tie.Need-slice_bounds-product-end
 slice-aggregate-product c = sym (good c.before).long
 
 product-requires : tie.Need-product-requires
-product-requires c κs = (good c.before).sizes-1
+product-requires c κs = (good c.before).sizes
 
 returns : tie.Need-returns
 returns c = whole _ (good c.before.before) c.product.ensures

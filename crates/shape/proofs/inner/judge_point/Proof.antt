@@ -9,8 +9,8 @@ use Rattle.shape.proofs.inner.judge_point.Tie as tie
 returns : tie.Need-returns-then-point-rank
 returns c = rw (ne_eqb _ _ c.if-point-rank.true)
 
-good : (c : tie.After-sizes-1) → Limits c.before.before.before.args.shape
-good c = limits c.before.before.before.args.shape (search rules) c.before.before.before.requires
+good : (c : tie.After-sizes-1) → Limits c.args.shape
+good c = limits c.args.shape (search rules) c.requires
 
 array-share-prefix-sizes : tie.Need-slice_bounds-sizes-end
 array-share-prefix-sizes c = (good c).room
@@ -20,13 +20,13 @@ slice-aggregate-inside c = sym (good c.before).long
 
 -- the point has a coordinate for each dimension
 inside-requires : tie.Need-inside-requires
-inside-requires c κs = c.before.before.if-point-rank.false ∙ sym (good c.before).long
+inside-requires c κs = c.if-point-rank.false ∙ sym (good c.before).long
 
 returns-2 : tie.Need-returns-then-inside
-returns-2 c = rw (eq-eqb _ _ c.before.before.before.before.if-point-rank.false, sym c.before.inside.ensures ∙ c.if-inside.true)
+returns-2 c = rw (eq-eqb _ _ c.if-point-rank.false, sym c.inside.ensures ∙ c.if-inside.true)
 
 returns-3 : tie.Need-returns-else-inside
-returns-3 c = rw (eq-eqb _ _ c.before.before.before.before.if-point-rank.false, sym c.before.inside.ensures ∙ c.if-inside.false)
+returns-3 c = rw (eq-eqb _ _ c.if-point-rank.false, sym c.inside.ensures ∙ c.if-inside.false)
 
 pub judge_point_spec : {M : Type 1} → statement M
 judge_point_spec =

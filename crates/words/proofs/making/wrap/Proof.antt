@@ -7,43 +7,43 @@ use borrow.Author.Rules.{rules}
 use Rattle.words.proofs.making.wrap.Statement.{statement}
 use Rattle.words.proofs.making.wrap.Tie as tie
 
-cast-put : tie.Need-overflow-cast-put
+cast-put : tie.Need-overflow_cast-o
 cast-put c = search rules
 
-put-requires : tie.Need-put-requires
+put-requires : tie.Need-put-a-requires
 put-requires c κs = search rules
 
-put-requires-2 : tie.Need-put-requires-2
+put-requires-2 : tie.Need-put-b-requires
 put-requires-2 c κs = search rules
 
-cast-put-2 : tie.Need-overflow-cast-put-2
+cast-put-2 : tie.Need-overflow_cast-n
 cast-put-2 c = search rules
 
-put-requires-3 : tie.Need-put-requires-3
+put-requires-3 : tie.Need-put-c-requires
 put-requires-3 c κs = search rules
 
-skip-requires : tie.Need-skip-requires
+skip-requires : tie.Need-skip-q-requires
 skip-requires c κs = search rules
 
-forward-requires : tie.Need-forward-requires
+forward-requires : tie.Need-forward-f-requires
 forward-requires c κs = search rules
 
-copy-requires : tie.Need-copy-requires
+copy-requires : tie.Need-copy-e-requires
 copy-requires c κs = search rules
 
-put-requires-4 : tie.Need-put-requires-4
+put-requires-4 : tie.Need-put-g-requires
 put-requires-4 c κs = search rules
 
-put-requires-5 : tie.Need-put-requires-5
+put-requires-5 : tie.Need-put-h-requires
 put-requires-5 c κs = search rules
 
-put-requires-6 : tie.Need-put-requires-6
+put-requires-6 : tie.Need-put-i-requires
 put-requires-6 c κs = search rules
 
-put-requires-7 : tie.Need-put-requires-7
+put-requires-7 : tie.Need-put-requires
 put-requires-7 c κs = search rules
 
-same_length : tie.Need-same-length
+same_length : tie.Need-shape_of-out
 same_length c = search rules
 
 returns : tie.Need-returns
@@ -61,8 +61,8 @@ returns c = let k7 = c.before in
     let zo = to_z_pos w64 {n = s.args.o} (omega (arith, s.requires.1.1.0)) in
     let zn = to_z_pos w64 {n = s.args.n} (omega (arith, s.requires.1.1.1)) in
     wrap-made s.args.o s.args.d s.args.lo s.args.hi s.args.w.now _ _ _ _ _ _ _ _ _ _ _ _ _ _ _ _ _ _ _ _ _ _
-    (rw zo at k1.put.ensures) (rw (to_z-of_z s.ranges.d) at k2.put2.ensures) (rw zn at k3.put3.ensures) q.skip.ensures f.forward.ensures y.copy.ensures
-    (rw (to_z-of_z s.ranges.lo) at k4.put4.ensures) (rw (to_z-of_z s.ranges.hi) at k5.put5.ensures) k6.put6.ensures k7.put7.ensures
+    (rw zo at k1.put-a.ensures) (rw (to_z-of_z s.ranges.d) at k2.put-b.ensures) (rw zn at k3.put-c.ensures) q.skip-q.ensures f.forward-f.ensures y.copy-e.ensures
+    (rw (to_z-of_z s.ranges.lo) at k4.put-g.ensures) (rw (to_z-of_z s.ranges.hi) at k5.put-h.ensures) k6.put-i.ensures k7.put.ensures
 
 pub wrap_spec : {M : Type 1} → statement M
 wrap_spec =

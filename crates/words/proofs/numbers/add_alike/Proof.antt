@@ -13,20 +13,20 @@ use borrow.Author.Rules.{rules}
 use Rattle.words.proofs.numbers.add_alike.Statement.{statement}
 use Rattle.words.proofs.numbers.add_alike.Tie as tie
 
-returns : tie.Need-returns
+returns : tie.Need-returns-then-m-gt4611686018427387904
 returns c = let s = c.before in sym (sat-out (sign_of s.args.neg s.args.m +ℤ sign_of s.args.neg s.args.f) (omega (arith, ap nat_abs (one-sign s.args.neg s.args.m s.args.f), abs-sign s.args.neg (s.args.m + s.args.f))))
 
-returns-2 : tie.Need-returns-2
+returns-2 : tie.Need-returns-then-m-f
 returns-2 c = let s = c.before.before in sym (sat-out (sign_of s.args.neg s.args.m +ℤ sign_of s.args.neg s.args.f) (omega (arith, ap nat_abs (one-sign s.args.neg s.args.m s.args.f), abs-sign s.args.neg (s.args.m + s.args.f))))
 
-add-with-magnitude : tie.Need-overflow-add-with-magnitude
+add-with-magnitude : tie.Need-overflow_add-m
 add-with-magnitude c = search rules
 
-with-magnitude-requires : tie.Need-with-magnitude-requires
+with-magnitude-requires : tie.Need-with_magnitude-requires
 with-magnitude-requires c κs = search rules
 
-returns-3 : tie.Need-returns-3
-returns-3 c = let s = c.before.before.before in to_z-of_z (sfits_of c.with-magnitude.type-inv) ∙ c.with-magnitude.ensures ∙ ap saturate (one-sign s.args.neg s.args.m s.args.f)
+returns-3 : tie.Need-returns
+returns-3 c = let s = c.before.before.before in to_z-of_z (sfits_of c.with_magnitude.type_inv) ∙ c.with_magnitude.ensures ∙ ap saturate (one-sign s.args.neg s.args.m s.args.f)
 
-pub add-alike-spec : {M : Type 1} → statement M
-add-alike-spec = tie.close (tie.spec returns returns-2 add-with-magnitude with-magnitude-requires returns-3)
+pub add_alike_spec : {M : Type 1} → statement M
+add_alike_spec = tie.close (tie.spec returns returns-2 add-with-magnitude with-magnitude-requires returns-3)

@@ -8,20 +8,20 @@ use borrow.Author.Rules.{rules}
 use Rattle.words.proofs.numbers.add_opposed.Statement.{statement}
 use Rattle.words.proofs.numbers.add_opposed.Tie as tie
 
-with-magnitude-requires : tie.Need-with-magnitude-requires
+with-magnitude-requires : tie.Need-with_magnitude-requires
 with-magnitude-requires c κs = search rules
 
-returns : tie.Need-returns
-returns c = let s = c.before.before in to_z-of_z (sfits_of c.with-magnitude.type-inv) ∙ c.with-magnitude.ensures ∙ ap saturate (first-larger s.args.neg s.args.m s.args.f c.before.if1.true)
+returns : tie.Need-returns-then-f-m
+returns c = let s = c.before.before in to_z-of_z (sfits_of c.with_magnitude.type_inv) ∙ c.with_magnitude.ensures ∙ ap saturate (first-larger s.args.neg s.args.m s.args.f c.if-f-m.true)
 
-sub-with-magnitude : tie.Need-overflow-sub-with-magnitude
+sub-with-magnitude : tie.Need-overflow_sub-f
 sub-with-magnitude c = search rules
 
-with-magnitude-requires-2 : tie.Need-with-magnitude-requires-2
+with-magnitude-requires-2 : tie.Need-with_magnitude-requires-2
 with-magnitude-requires-2 c κs = search rules
 
-returns-2 : tie.Need-returns-2
-returns-2 c = let s = c.before.before in to_z-of_z (sfits_of c.with-magnitude2.type-inv) ∙ c.with-magnitude2.ensures ∙ ap saturate (second-larger s.args.neg s.args.m s.args.f c.before.if1.false)
+returns-2 : tie.Need-returns
+returns-2 c = let s = c.before.before in to_z-of_z (sfits_of c.with_magnitude-2.type_inv) ∙ c.with_magnitude-2.ensures ∙ ap saturate (second-larger s.args.neg s.args.m s.args.f c.if-f-m.false)
 
-pub add-opposed-spec : {M : Type 1} → statement M
-add-opposed-spec = tie.close (tie.spec with-magnitude-requires returns sub-with-magnitude with-magnitude-requires-2 returns-2)
+pub add_opposed_spec : {M : Type 1} → statement M
+add_opposed_spec = tie.close (tie.spec with-magnitude-requires returns sub-with-magnitude with-magnitude-requires-2 returns-2)

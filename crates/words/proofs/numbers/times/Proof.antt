@@ -17,43 +17,43 @@ over x y z h = let p : 0 < x = omega arith in omega (arith, (div-lt_iff_lt-mul p
 within : (x y : ℕ) → (x ≡ 0 → ⊥) → y ≤ 4611686018427387904 / x → x * y ≤ 4611686018427387904
 within x y z h = let p : 0 < x = omega arith in omega (arith, (le-div_iff_mul-le p).0 h)
 
-magnitude-requires : tie.Need-magnitude-requires
+magnitude-requires : tie.Need-magnitude-x-requires
 magnitude-requires c κs = search rules
 
-magnitude-requires-2 : tie.Need-magnitude-requires-2
+magnitude-requires-2 : tie.Need-magnitude-y-requires
 magnitude-requires-2 c κs = search rules
 
-returns : tie.Need-returns
+returns : tie.Need-returns-then-x-eq0
 returns c = let s = c.before.before.before in
-    let x = rw (to_z-of_z s.ranges.a) at c.before.before.magnitude.ensures in
-    rw (abs-zero s.args.a (sym x ∙ c.if1.true), zero-*ℤ s.args.b) (sym (sat-in (pos 0) (omega arith)))
+    let x = rw (to_z-of_z s.ranges.a) at c.magnitude-x.ensures in
+    rw (abs-zero s.args.a (sym x ∙ c.if-x-eq0.true), zero-*ℤ s.args.b) (sym (sat-in (pos 0) (omega arith)))
 
-div-if2 : tie.Need-nonzero-div-if2
+div-if2 : tie.Need-nonzero_div-x
 div-if2 c = search rules
 
-returns-2 : tie.Need-returns-2
+returns-2 : tie.Need-returns-then-x-y
 returns-2 c = let s = c.before.before.before.before in
-    let x = rw (to_z-of_z s.ranges.a) at c.before.before.before.magnitude.ensures in
-    let y = rw (to_z-of_z s.ranges.b) at c.before.before.magnitude2.ensures in
-    let h = rw (x, y) at (over _ _ c.before.if1.false c.if2.true) in
+    let x = rw (to_z-of_z s.ranges.a) at c.magnitude-x.ensures in
+    let y = rw (to_z-of_z s.ranges.b) at c.magnitude-y.ensures in
+    let h = rw (x, y) at (over _ _ c.if-x-eq0.false c.if-x-y.true) in
     sym (sat-out (s.args.a *ℤ s.args.b) (rw abs-mul h))
 
-mul-with-sign : tie.Need-overflow-mul-with-sign
-mul-with-sign c = record { fits = omega (arith, within _ _ c.before.if1.false c.if2.false) }
+mul-with-sign : tie.Need-overflow_mul-x
+mul-with-sign c = record { fits = omega (arith, within _ _ c.if-x-eq0.false c.if-x-y.false) }
 
-with-sign-requires : tie.Need-with-sign-requires
-with-sign-requires c κs = within _ _ c.before.if1.false c.if2.false
+with-sign-requires : tie.Need-with_sign-requires
+with-sign-requires c κs = within _ _ c.if-x-eq0.false c.if-x-y.false
 
-returns-3 : tie.Need-returns-3
+returns-3 : tie.Need-returns
 returns-3 c = let s = c.before.before.before.before.before in
-    let x = rw (to_z-of_z s.ranges.a) at c.before.before.before.before.magnitude.ensures in
-    let y = rw (to_z-of_z s.ranges.b) at c.before.before.before.magnitude2.ensures in
-    let h = rw (x, y) at (within _ _ c.before.before.if1.false c.before.if2.false) in
-    let e = rw (x, y, to_z-of_z s.ranges.a, to_z-of_z s.ranges.b) at c.with-sign.ensures in
-    to_z-of_z (sfits_of c.with-sign.type-inv) ∙ e ∙ mul-signed s.args.a s.args.b ∙ sym (sat-in (s.args.a *ℤ s.args.b) (rw abs-mul h))
+    let x = rw (to_z-of_z s.ranges.a) at c.magnitude-x.ensures in
+    let y = rw (to_z-of_z s.ranges.b) at c.magnitude-y.ensures in
+    let h = rw (x, y) at (within _ _ c.if-x-eq0.false c.if-x-y.false) in
+    let e = rw (x, y, to_z-of_z s.ranges.a, to_z-of_z s.ranges.b) at c.with_sign.ensures in
+    to_z-of_z (sfits_of c.with_sign.type_inv) ∙ e ∙ mul-signed s.args.a s.args.b ∙ sym (sat-in (s.args.a *ℤ s.args.b) (rw abs-mul h))
 
-pub times-spec : {M : Type 1} → statement M
-times-spec =
+pub times_spec : {M : Type 1} → statement M
+times_spec =
     tie.close
     (tie.spec
     magnitude-requires

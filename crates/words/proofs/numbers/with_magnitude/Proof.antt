@@ -10,14 +10,14 @@ use borrow.Author.Rules.{rules}
 use Rattle.words.proofs.numbers.with_magnitude.Statement.{statement}
 use Rattle.words.proofs.numbers.with_magnitude.Tie as tie
 
-returns : tie.Need-returns
-returns c = let s = c.before in sym (sat-out (sign_of s.args.neg s.args.m) (omega (arith, abs-sign s.args.neg s.args.m, c.if1.true)))
+returns : tie.Need-returns-then-m-gt4611686018427387904
+returns c = let s = c.before in sym (sat-out (sign_of s.args.neg s.args.m) (omega (arith, abs-sign s.args.neg s.args.m, c.if-m-gt4611686018427387904.true)))
 
-with-sign-requires : tie.Need-with-sign-requires
+with-sign-requires : tie.Need-with_sign-requires
 with-sign-requires c κs = search rules
 
-returns-2 : tie.Need-returns-2
-returns-2 c = let s = c.before.before in to_z-of_z (sfits_of c.with-sign.type-inv) ∙ c.with-sign.ensures ∙ sym (sat-in (sign_of s.args.neg s.args.m) (omega (arith, abs-sign s.args.neg s.args.m, c.before.if1.false)))
+returns-2 : tie.Need-returns
+returns-2 c = let s = c.before.before in to_z-of_z (sfits_of c.with_sign.type_inv) ∙ c.with_sign.ensures ∙ sym (sat-in (sign_of s.args.neg s.args.m) (omega (arith, abs-sign s.args.neg s.args.m, c.if-m-gt4611686018427387904.false)))
 
-pub with-magnitude-spec : {M : Type 1} → statement M
-with-magnitude-spec = tie.close (tie.spec returns with-sign-requires returns-2)
+pub with_magnitude_spec : {M : Type 1} → statement M
+with_magnitude_spec = tie.close (tie.spec returns with-sign-requires returns-2)

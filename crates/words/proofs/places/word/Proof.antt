@@ -6,17 +6,17 @@ use lib.ListN.{get_or-eq_default}
 use Rattle.words.proofs.places.word.Statement.{statement}
 use Rattle.words.proofs.places.word.Tie as tie
 
-mul-result : tie.Need-overflow-mul-result
+mul-result : tie.Need-offset_bounds-w-p
 mul-result c = search rules
 
-shared-slice-copy-out-result : tie.Need-shared-slice-copy-out-result
+shared-slice-copy-out-result : tie.Need-bounds-w-p
 shared-slice-copy-out-result c = search rules
 
-returns : tie.Need-returns
+returns : tie.Need-returns-then-p-w
 returns c = search rules
 
-returns-2 : tie.Need-returns-2
-returns-2 c = sym (get_or-eq_default c.before.args.w.now (pos 0) c.if1.false)
+returns-2 : tie.Need-returns-else-p-w
+returns-2 c = sym (get_or-eq_default c.args.w.now (pos 0) c.if-p-w.false)
 
-pub word-spec : {M : Type 1} → statement M
-word-spec = tie.close (tie.spec mul-result shared-slice-copy-out-result returns returns-2)
+pub word_spec : {M : Type 1} → statement M
+word_spec = tie.close (tie.spec mul-result shared-slice-copy-out-result returns returns-2)
