@@ -168,7 +168,7 @@ use std::process::ExitCode;
 
 use random_kinds::{random_lines, Kind};
 
-const USAGE: &str = "usage: oracle answer | random SEED N [KIND] | vectors [DIR] | brute
+const USAGE: &str = "usage: oracle answer | random SEED N [KIND] | vectors [DIR] | table-vectors DIR | brute
 KIND: layout, route, tree, table, map, compose, operation, division or retile";
 
 /// Where `vectors` writes when no directory is given.
@@ -186,6 +186,7 @@ fn main() -> ExitCode {
         },
         ["vectors"] => vectors::write_vectors(VECTORS_DIRECTORY),
         ["vectors", directory] => vectors::write_vectors(directory),
+        ["table-vectors", directory] => vectors::write_table_vectors(directory),
         ["brute"] => return brute(),
         _ => return usage(),
     };

@@ -59,11 +59,21 @@ const RANDOM_RETILINGS: u64 = 60;
 
 /// Writes both files into a directory.
 pub fn write_vectors(directory: &str) -> io::Result<()> {
+    write_both(directory, &requests())
+}
+
+/// Writes the requests about offset tables and their answers into a directory.
+pub fn write_table_vectors(directory: &str) -> io::Result<()> {
+    let mut requests = Vec::new();
+    offset_tables(&mut requests);
+    write_both(directory, &requests)
+}
+
+fn write_both(directory: &str, requests: &[u8]) -> io::Result<()> {
     let directory = Path::new(directory);
-    let requests = requests();
     fs::create_dir_all(directory)?;
-    fs::write(directory.join("stdin"), &requests)?;
-    fs::write(directory.join("stdout"), answer_input(&requests))
+    fs::write(directory.join("stdin"), requests)?;
+    fs::write(directory.join("stdout"), answer_input(requests))
 }
 
 /// The bytes of `stdin`. Its last line ends with the input.
@@ -77,7 +87,6 @@ fn requests() -> Vec<u8> {
     operations(&mut bytes);
     divisions(&mut bytes);
     retilings(&mut bytes);
-    offset_tables(&mut bytes);
     bytes.extend(b"# a last line that ends at the end of the input\n");
     bytes.extend(b"offset [3,5] {1,0:T(2,2)} (2,3)");
     bytes

@@ -1,11 +1,10 @@
 -- What the calls on shapes answer: the rules in the order of their numbers, and the values. Assumes nothing.
 use Rattle.std.specs.Prelude.{ℕ, ◌+◌, ◌-◌, List, [], ◌∷◌, ◌++◌, ltb, eqb, length, replicate}
 use Rattle.radix.specs.Radix.{row_major, digits, is_inside}
-use Rattle.refusal.specs.Number.{Answer, done, refusal, answered, verdict_answer, number_of, places_of}
+use Rattle.refusal.specs.Number.{Answer, done, refusal, answered, verdict_answer}
 use Rattle.refusal.specs.Judge.{Rule, rule, judge}
 use Rattle.refusal.specs.declared.Refusal.{Refusal}
 use Rattle.refusal.specs.declared.Refusal.TheVariants.{ShapeLimits, Outside, WrongLength}
-use Rattle.refusal.specs.declared.Verdict.{Verdict}
 use Rattle.refusal.specs.declared.Verdict.TheVariants.{Refused}
 use Rattle.shape.specs.Shape.{max_rank, sizes_of, count_of, good_shape}
 use Rattle.shape.specs.declared.Shape.{Shape}

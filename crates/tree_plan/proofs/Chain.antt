@@ -1,5 +1,5 @@
 -- On a tree without forks the answer is the one of the stations in a row. Assumes nothing.
-use Prim.Native.Nat.{ℕ, zero, suc, ◌+◌, ◌*◌, ◌-◌, ◌≤◌, ◌<◌}
+use Prim.Native.Nat.{ℕ, zero, suc, ◌+◌, ◌*◌, ◌≤◌, ◌<◌}
 use mathlib.Core.Path.{◌≡◌, refl, sym, ap, ap₂, subst, ◌∙◌}
 use mathlib.Core.Bool.{Bool, true, false}
 use mathlib.Core.List.{List, [], ◌∷◌}
@@ -15,7 +15,7 @@ use Rattle.plan.specs.Value.{far}
 use Rattle.plan.specs.Answer.{spread, plan_answer}
 use Rattle.plan.proofs.Theorems.{best-found, none_found, best-one}
 use Rattle.tree_plan.specs.Tree.{Tree, Earlier, Formed, sum_to, at, link_moves, link_cost, plan_moves, plan_cost, Admitted, Best}
-use Rattle.tree_plan.specs.Weight.{far_weight, least_weight, least_cost}
+use Rattle.tree_plan.specs.Weight.{far_weight, least_weight}
 use Rattle.tree_plan.specs.Answer.{tree_answer, Unforked, in_row}
 use Rattle.tree_plan.proofs.Sums.{sum-agree, sum_head}
 use Rattle.tree_plan.proofs.Bounds.{Small}

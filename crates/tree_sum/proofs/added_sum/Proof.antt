@@ -4,42 +4,42 @@ use Rattle.tree_sum.proofs.Moved.{add-moved, add-not}
 use Rattle.tree_sum.proofs.added_sum.Statement.{statement}
 use Rattle.tree_sum.proofs.added_sum.Tie as tie
 
-blend-requires : tie.Need-blend-requires
+blend-requires : tie.Need-blend-m-requires
 blend-requires c κs = search rules
 
-no-sum-requires : tie.Need-no-sum-requires
+no-sum-requires : tie.Need-no_sum-requires
 no-sum-requires c κs = search rules
 
-same_length : tie.Need-same-length
+same_length : tie.Need-shape_of-x-then-m-gt-MAX_TERMS
 same_length c = search rules
 
-same-length-2 : tie.Need-same-length-2
+same-length-2 : tie.Need-shape_of-y-then-m-gt-MAX_TERMS
 same-length-2 c = search rules
 
-returns : tie.Need-returns
+returns : tie.Need-returns-then-m-gt-MAX_TERMS
 returns c =
     let i = c.before in
     let m = i.before.before.before in
     let s = m.before.before.before in
-    rw c.no-sum.ensures (add-not s.args.b s.args.a s.args.x.now s.args.y.now _ s.args.p _ _ s.requires.0 s.requires.1 s.requires.2 m.blend.ensures i.if1.true)
+    rw c.no_sum.ensures (add-not s.args.b s.args.a s.args.x.now s.args.y.now _ s.args.p _ _ s.requires.0 s.requires.1 s.requires.2 m.blend-m.ensures i.if-m-gt-MAX_TERMS.true)
 
-kept-sum-requires : tie.Need-kept-sum-requires
+kept-sum-requires : tie.Need-kept_sum-requires
 kept-sum-requires c κs = search rules
 
-same-length-3 : tie.Need-same-length-3
+same-length-3 : tie.Need-shape_of-x
 same-length-3 c = search rules
 
-same-length-4 : tie.Need-same-length-4
+same-length-4 : tie.Need-shape_of-y
 same-length-4 c = search rules
 
-returns-2 : tie.Need-returns-2
+returns-2 : tie.Need-returns
 returns-2 c =
     let m = c.before.before.before.before.before.before.before in
     let s = m.before.before.before in
-    add-moved s.args.b s.args.a s.args.x.now s.args.y.now _ s.args.p _ _ s.requires.0 s.requires.1 s.requires.2 m.blend.ensures _ _ c.before.kept-sum.ensures
+    add-moved s.args.b s.args.a s.args.x.now s.args.y.now _ s.args.p _ _ s.requires.0 s.requires.1 s.requires.2 m.blend-m.ensures _ _ c.kept_sum.ensures
 
-pub added-sum-spec : {M : Type 1} → statement M
-added-sum-spec =
+pub added_sum_spec : {M : Type 1} → statement M
+added_sum_spec =
     tie.close
     (tie.spec
     blend-requires

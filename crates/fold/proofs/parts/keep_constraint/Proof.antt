@@ -7,45 +7,45 @@ use Rattle.fold.proofs.parts.keep_constraint.Tie as tie
 use Rattle.fold.proofs.parts.keep_constraint.Reads as reads
 use Rattle.fold.proofs.parts.keep_constraint.Lts as lts
 
-returns : tie.Need-returns
+returns : tie.Need-returns-then-gone
 returns c = search rules
 
-mul-counts : tie.Need-overflow-mul-counts
+mul-counts : tie.Need-offset_bounds-counts-count
 mul-counts c = search rules
 
-slice-write-counts : tie.Need-slice-write-counts
+slice-write-counts : tie.Need-bounds-counts-count
 slice-write-counts c = search rules
 
-mul-lo : tie.Need-overflow-mul-lo
+mul-lo : tie.Need-offset_bounds-lower-count
 mul-lo c = search rules
 
-slice-set-from-lo : tie.Need-slice-set-from-lo
+slice-set-from-lo : tie.Need-bounds-lower-count
 slice-set-from-lo c = search rules
 
-mul-hi : tie.Need-overflow-mul-hi
+mul-hi : tie.Need-offset_bounds-upper-count
 mul-hi c = search rules
 
-slice-set-from-hi : tie.Need-slice-set-from-hi
+slice-set-from-hi : tie.Need-bounds-upper-count
 slice-set-from-hi c = search rules
 
-add-result : tie.Need-overflow-add-result
+add-result : tie.Need-overflow_add-result
 add-result c = search rules
 
-same_length : tie.Need-same-length
+same_length : tie.Need-shape_of-counts
 same_length c = search rules
 
-same-length-2 : tie.Need-same-length-2
+same-length-2 : tie.Need-shape_of-lower
 same-length-2 c = search rules
 
-same-length-3 : tie.Need-same-length-3
+same-length-3 : tie.Need-shape_of-upper
 same-length-3 c = search rules
 
-returns-2 : tie.Need-returns-2
+returns-2 : tie.Need-returns
 returns-2 c =
-    rw (c.if1.false, to_z-of_z c.before.ranges.lo, to_z-of_z c.before.ranges.hi) (record { counts-are = refl; lower-are = refl; upper-are = refl; count-is = refl })
+    rw (c.if-gone.false, to_z-of_z c.ranges.lo, to_z-of_z c.ranges.hi) (record { counts-are = refl; lower-are = refl; upper-are = refl; count-is = refl })
 
-pub keep-constraint-spec : {M : Type 1} → statement M
-keep-constraint-spec =
+pub keep_constraint_spec : {M : Type 1} → statement M
+keep_constraint_spec =
     tie.close
     (tie.spec
     returns

@@ -17,11 +17,11 @@ use Rattle.indexing.proofs.inner.run_of.Reads as run-of-reads
 use Rattle.tree_sum.proofs.tree_sum.Reads as tree-sum-reads
 
 -- where the run stands
-abbrev start : tie.After-from → tie.Start
-start c = c.before.before.before.before.before.before.before
+abbrev start : tie.In-Held-2 → tie.Start
+start c = c.before.before.before.before.before.before
 
-told : (c : tie.After-from) → run.Held c.from.given.0.0 c.from.given.0.1.0 ≡ run_of (start c).args.m (start c).args.i
-told c = sym c.from.given.1 ∙ c.before.before.run_of.ensures
+told : (c : tie.In-Held-2) → run.Held c.in-Held.from c.in-Held.count ≡ run_of (start c).args.m (start c).args.i
+told c = sym c.in-Held.is ∙ c.run_of.ensures
 
 long-kinds : (s : tie.Start) → length s.args.m.kinds ≡ max_nodes
 long-kinds s = search rules
@@ -29,67 +29,67 @@ long-kinds s = search rules
 long-values : (s : tie.Start) → length s.args.m.values ≡ max_nodes
 long-values s = search rules
 
-end : (c : tie.After-from) → c.from.given.0.0 + c.from.given.0.1.0 ≤ max_nodes
+end : (c : tie.In-Held-2) → c.in-Held.from + c.in-Held.count ≤ max_nodes
 end c =
     let s = start c in
-    run_end s.args.m s.pre.0.formed s.args.i s.pre.1 _ _ (told c) (long-kinds s) (long-values s)
+    run_end s.args.m s.requires.0.formed s.args.i s.requires.1 _ _ (told c) (long-kinds s) (long-values s)
 
-run-of-requires : tie.Need-run-of-requires
+run-of-requires : tie.Need-run_of-requires
 run-of-requires c κs = search rules
 
-enum-known-from : tie.Need-enum-known-from
+enum-known-from : tie.Need-enum_known-from
 enum-known-from c = search rules
 
-slice-aggregate-tree-sum : tie.Need-slice-aggregate-tree-sum
+slice-aggregate-tree-sum : tie.Need-slice_bounds-tree_sum-end
 slice-aggregate-tree-sum c = search rules
 
-slice-aggregate-tree-sum-2 : tie.Need-slice-aggregate-tree-sum-2
+slice-aggregate-tree-sum-2 : tie.Need-slice_bounds-tree_sum-end-in-Held
 slice-aggregate-tree-sum-2 c = search rules
 
-slice-aggregate-tree-sum-3 : tie.Need-slice-aggregate-tree-sum-3
+slice-aggregate-tree-sum-3 : tie.Need-slice_bounds-tree_sum-end-in-Held-2
 slice-aggregate-tree-sum-3 c = search rules
 
-slice-aggregate-tree-sum-4 : tie.Need-slice-aggregate-tree-sum-4
+slice-aggregate-tree-sum-4 : tie.Need-slice_bounds-tree_sum-end-in-Held-3
 slice-aggregate-tree-sum-4 c = search rules
 
-add-tree-sum : tie.Need-overflow-add-tree-sum
+add-tree-sum : tie.Need-overflow_add-from
 add-tree-sum c =
-    let f = c.before.before.before.before.before in
+    let f = c.before.before.before.before in
     let e = end f in
     record { fits = omega arith }
 
-tree-sum-requires : tie.Need-tree-sum-requires
+tree-sum-requires : tie.Need-tree_sum-requires
 tree-sum-requires c κs =
-    let f = c.before.before.before.before.before.before.before in
+    let f = c.before.before.before.before.before.before in
     let s = start f in (
       record { in-kinds = omega (arith, end f, long-kinds s); in-values = omega (arith, end f, long-values s) },
-      record { place = omega arith; few = s.pre.2.few_words; few-scratch = s.pre.2.few-scratch },
+      record { place = omega arith; few = s.requires.2.few_words; few-scratch = s.requires.2.few-scratch },
     )
 
-same_length : tie.Need-same-length
+same_length : tie.Need-shape_of-words-in-Held
 same_length c = search rules
 
-same-length-2 : tie.Need-same-length-2
+same-length-2 : tie.Need-shape_of-scratch-in-Held
 same-length-2 c = search rules
 
-returns : tie.Need-returns
+returns : tie.Need-returns-in-Held
 returns c =
     let t = c.before.before in
-    let f = t.before.before.before.before.before.before.before.before in
+    let f = t.before.before.before.before.before.before.before in
     let s = start f in
-    run-folded s.args.m s.pre.0.formed s.args.i s.pre.1 _ _ (told f) (long-kinds s) (long-values s) _ _ _ _ _ s.pre.2 t.tree-sum.ensures
+    run-folded s.args.m s.requires.0.formed s.args.i s.requires.1 _ _ (told f) (long-kinds s) (long-values s) _ _ _ _ _ s.requires.2 t.tree_sum.ensures
 
-enum_told : tie.Need-enum-told
+enum_told : tie.Need-enum_told-1
 enum_told c = search rules
 
-returns-2 : tie.Need-returns-2
+returns-2 : tie.Need-returns-in-Cut
 returns-2 c =
-    let r = c.before.before in
+    let r = c.before in
     let s = r.before.before.before.before.before in
-    absurd (never-cut s.args.m s.args.i s.requires.0.formed s.requires.1 (sym c.enum_told.given.1 ∙ r.run_of.ensures))
+    absurd (never-cut s.args.m s.args.i s.requires.0.formed s.requires.1 (sym c.in-Cut.is ∙ r.run_of.ensures))
 
-pub run-sum-spec : {M : Type 1} → statement M
-run-sum-spec =
+pub run_sum_spec : {M : Type 1} → statement M
+run_sum_spec =
     tie.close
     (tie.spec
     run-of-requires

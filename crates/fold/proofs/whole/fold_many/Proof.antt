@@ -9,15 +9,15 @@ use Rattle.fold.proofs.whole.fold_many.Lts as lts
 use Rattle.fold.proofs.whole.fold_in.Reads as fold-in-reads
 
 -- src/whole.rt:165:16
-slice-aggregate-fold-in : tie.Need-slice-aggregate-fold-in
+slice-aggregate-fold-in : tie.Need-slice_bounds-fold_in-end
 slice-aggregate-fold-in c = search rules
 
 -- src/whole.rt:165:28
-slice-aggregate-fold-in-2 : tie.Need-slice-aggregate-fold-in-2
+slice-aggregate-fold-in-2 : tie.Need-slice_bounds-fold_in-end-2
 slice-aggregate-fold-in-2 c = search rules
 
 -- src/whole.rt:165:5
-fold-in-requires : tie.Need-fold-in-requires
+fold-in-requires : tie.Need-fold_in-requires
 fold-in-requires c κs =
     let s = c.before.before in
     let n = nodes-most s.args.m s.requires.formed in
@@ -27,6 +27,6 @@ fold-in-requires c κs =
 returns : tie.Need-returns
 returns c = search rules
 
-pub fold-many-spec : {M : Type 1} → statement M
-fold-many-spec =
+pub fold_many_spec : {M : Type 1} → statement M
+fold_many_spec =
     tie.close (tie.spec slice-aggregate-fold-in slice-aggregate-fold-in-2 fold-in-requires returns)

@@ -15,36 +15,36 @@ use Rattle.indexing.proofs.inner.refused_map.Reads as refused-map-reads
 judged-requires : tie.Need-judged-requires
 judged-requires c κs = search rules
 
-enum_told : tie.Need-enum-told
+enum_told : tie.Need-enum_told-1
 enum_told c = search rules
 
-fold-accepted-requires : tie.Need-fold-accepted-requires
+fold-accepted-requires : tie.Need-fold_accepted-requires
 fold-accepted-requires c κs =
-    let j = c.before.before in
-    accepted-of j.before.args.m (sym j.judged.ensures ∙ c.enum_told.given.1)
+    let j = c.before in
+    accepted-of j.args.m (sym j.judged.ensures ∙ c.in-Done.is)
 
-returns : tie.Need-returns
+returns : tie.Need-returns-in-Done
 returns c =
     let e = c.before in
-    let j = e.before.before in
-    let m = j.before.args.m in
-    ap map_answer c.fold-accepted.ensures ∙ folded-done m (sym j.judged.ensures ∙ e.enum_told.given.1)
+    let j = e.before in
+    let m = j.args.m in
+    ap map_answer c.fold_accepted.ensures ∙ folded-done m (sym j.judged.ensures ∙ e.in-Done.is)
 
-enum-known-r : tie.Need-enum-known-r
+enum-known-r : tie.Need-enum_known-r
 enum-known-r c = search rules
 
-refused-requires : tie.Need-refused-map-requires
+refused-requires : tie.Need-refused_map-requires
 refused-requires c κs = search rules
 
-returns-2 : tie.Need-returns-2
+returns-2 : tie.Need-returns-in-Refused
 returns-2 c =
-    let r = c.before.before in
-    let j = r.before.before in
-    let m = j.before.args.m in
-    ap map_answer c.refused-map.ensures ∙ folded-refused m _ (sym j.judged.ensures ∙ r.r.given.1)
+    let r = c.before in
+    let j = r.before in
+    let m = j.args.m in
+    ap map_answer c.refused_map.ensures ∙ folded-refused m _ (sym j.judged.ensures ∙ r.in-Refused.is)
 
-pub fold-map-spec : {M : Type 1} → statement M
-fold-map-spec =
+pub fold_map_spec : {M : Type 1} → statement M
+fold_map_spec =
     tie.close
     (tie.spec
     judged-requires

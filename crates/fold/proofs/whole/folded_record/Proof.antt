@@ -6,11 +6,11 @@ use Rattle.fold.proofs.whole.folded_record.Reads as reads
 use Rattle.fold.proofs.whole.folded_record.Lts as lts
 use Rattle.encoding.proofs.record_of.Reads as record-of-reads
 
-record-of-requires : tie.Need-record-of-requires
+record-of-requires : tie.Need-record_of-requires
 record-of-requires c κs = let s = c.before.before in let w = counts s.args.m s.requires.formed in (w.dims, w.ranges)
 
 returns : tie.Need-returns
 returns c = c.record_of.ensures
 
-pub folded-record-spec : {M : Type 1} → statement M
-folded-record-spec = tie.close (tie.spec record-of-requires returns)
+pub folded_record_spec : {M : Type 1} → statement M
+folded_record_spec = tie.close (tie.spec record-of-requires returns)

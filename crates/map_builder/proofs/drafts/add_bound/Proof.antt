@@ -5,9 +5,6 @@ use Rattle.map_builder.specs.Draft.{add_dimension}
 use borrow.Author.Rules.{rules}
 use Rattle.map_builder.proofs.drafts.add_bound.Statement.{statement}
 use Rattle.map_builder.proofs.drafts.add_bound.Tie as tie
-use Rattle.map_builder.proofs.drafts.add_bound.Reads as reads
-use Rattle.map_builder.proofs.drafts.add_bound.Lts as lts
-use Rattle.map_builder.proofs.drafts.add_dimension.Reads as add-dimension-reads
 
 cast-add-dimension : tie.Need-overflow_cast-low
 cast-add-dimension c = search rules

@@ -6,9 +6,6 @@ use Rattle.map_builder.specs.Draft.{add_range}
 use borrow.Author.Rules.{rules}
 use Rattle.map_builder.proofs.drafts.add_range_to.Statement.{statement}
 use Rattle.map_builder.proofs.drafts.add_range_to.Tie as tie
-use Rattle.map_builder.proofs.drafts.add_range_to.Reads as reads
-use Rattle.map_builder.proofs.drafts.add_range_to.Lts as lts
-use Rattle.map_builder.proofs.drafts.add_range.Reads as add-range-reads
 
 cast-add-range : tie.Need-overflow_cast-high
 cast-add-range c = search rules

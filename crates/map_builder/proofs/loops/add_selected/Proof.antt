@@ -10,9 +10,6 @@ use Rattle.map_builder.proofs.Steps.{sized-at, steps-none, steps_next, steps-end
 use borrow.Author.Rules.{rules}
 use Rattle.map_builder.proofs.loops.add_selected.Statement.{statement}
 use Rattle.map_builder.proofs.loops.add_selected.Tie as tie
-use Rattle.map_builder.proofs.loops.add_selected.Reads as reads
-use Rattle.map_builder.proofs.loops.add_selected.Lts as lts
-use Rattle.map_builder.proofs.drafts.add_bound.Reads as add-bound-reads
 
 abbrev invariant-loop : tie.invariant-loop-i
 invariant-loop sizes list out₀ i₀ out i = (i ≤ length list) × (out ≡ steps (add_selected sizes list) i out₀)

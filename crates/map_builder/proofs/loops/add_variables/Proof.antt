@@ -9,10 +9,6 @@ use Rattle.map_builder.proofs.Steps.{Grows, steps-none, steps_next, steps-end, s
 use borrow.Author.Rules.{rules}
 use Rattle.map_builder.proofs.loops.add_variables.Statement.{statement}
 use Rattle.map_builder.proofs.loops.add_variables.Tie as tie
-use Rattle.map_builder.proofs.loops.add_variables.Reads as reads
-use Rattle.map_builder.proofs.loops.add_variables.Lts as lts
-use Rattle.map_builder.proofs.drafts.end_result.Reads as end-result-reads
-use Rattle.map_builder.proofs.trees.push_variable.Reads as push-variable-reads
 
 abbrev invariant-loop : tie.invariant-loop-i
 invariant-loop list out₀ i₀ out i = (i ≤ length list) × (out ≡ steps (add_variable list) i out₀)

@@ -10,9 +10,6 @@ use Rattle.map_builder.proofs.Steps.{steps-none, steps_next, steps-end, steps-gr
 use borrow.Author.Rules.{rules}
 use Rattle.map_builder.proofs.loops.add_whole.Statement.{statement}
 use Rattle.map_builder.proofs.loops.add_whole.Tie as tie
-use Rattle.map_builder.proofs.loops.add_whole.Reads as reads
-use Rattle.map_builder.proofs.loops.add_whole.Lts as lts
-use Rattle.map_builder.proofs.drafts.add_bound.Reads as add-bound-reads
 
 abbrev invariant-loop : tie.invariant-loop-i
 invariant-loop sizes out₀ i₀ out i = (i ≤ length sizes) × (out ≡ steps (add_size sizes) i out₀)

@@ -11,11 +11,6 @@ use Rattle.map_builder.proofs.Linear.{terms-next, terms-end, term-grown, linear-
 use borrow.Author.Rules.{rules}
 use Rattle.map_builder.proofs.loops.push_linear.Statement.{statement}
 use Rattle.map_builder.proofs.loops.push_linear.Tie as tie
-use Rattle.map_builder.proofs.loops.push_linear.Reads as reads
-use Rattle.map_builder.proofs.loops.push_linear.Lts as lts
-use Rattle.map_builder.proofs.trees.push_constant.Reads as push-constant-reads
-use Rattle.map_builder.proofs.loops.push_term.Reads as push-term-reads
-use Rattle.radix.proofs.product.Reads as product-reads
 
 abbrev invariant-loop : tie.invariant-loop-i
 invariant-loop sizes out₀ i₀ out i =

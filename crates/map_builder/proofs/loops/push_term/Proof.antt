@@ -2,17 +2,12 @@
 use mathlib.Core.Path.{◌∙◌}
 use native.Mathlib.Omega.{arith}
 use mir.Facts.{to_z-of_z}
+use mir.Syntax.{w64}
 use borrow.Author.Rules.{sfits_of, rules}
 use Rattle.map_builder.proofs.Steps.{pushed-grown, grown-then}
 use Rattle.map_builder.proofs.Linear.{term-first, term-next}
 use Rattle.map_builder.proofs.loops.push_term.Statement.{statement}
 use Rattle.map_builder.proofs.loops.push_term.Tie as tie
-use Rattle.map_builder.proofs.loops.push_term.Reads as reads
-use Rattle.map_builder.proofs.loops.push_term.Lts as lts
-use Rattle.map_builder.proofs.signs.natural.Reads as natural-reads
-use Rattle.map_builder.proofs.trees.push_product.Reads as push-product-reads
-use Rattle.map_builder.proofs.trees.push_sum.Reads as push-sum-reads
-use Rattle.map_builder.proofs.trees.push_variable.Reads as push-variable-reads
 
 push-variable-requires : tie.Need-push_variable-v-requires
 push-variable-requires c κs = search rules
@@ -33,7 +28,7 @@ returns c =
     let n = p.before in
     let v = n.before in
     let s = v.before in
-    term-first s.args.d v.push_variable-v.result p.push_product-p.result s.args.k s.args.factor _ v.push_variable-v.ensures p.push_product-p.ensures (to_z-of_z (sfits_of n.natural.type_inv) ∙ n.natural.ensures) c.if-k-eq0.true
+    term-first s.args.d v.push_variable-v.result p.push_product-p.result s.args.k s.args.factor _ v.push_variable-v.ensures p.push_product-p.ensures (to_z-of_z {w = w64} (sfits_of n.natural.type_inv) ∙ n.natural.ensures) c.if-k-eq0.true
 
 push-sum-requires : tie.Need-push_sum-requires
 push-sum-requires c κs =
@@ -51,7 +46,7 @@ returns-2 c =
     let n = p.before in
     let v = n.before in
     let s = v.before in
-    term-next s.args.d v.push_variable-v.result p.push_product-p.result s.args.k s.args.factor _ v.push_variable-v.ensures p.push_product-p.ensures (to_z-of_z (sfits_of n.natural.type_inv) ∙ n.natural.ensures) i.if-k-eq0.false c.push_sum.result c.push_sum.ensures
+    term-next s.args.d v.push_variable-v.result p.push_product-p.result s.args.k s.args.factor _ v.push_variable-v.ensures p.push_product-p.ensures (to_z-of_z {w = w64} (sfits_of n.natural.type_inv) ∙ n.natural.ensures) i.if-k-eq0.false c.push_sum.result c.push_sum.ensures
 
 pub push_term_spec : {M : Type 1} → statement M
 push_term_spec =

@@ -3,8 +3,6 @@ use mir.Facts.{to_z-of_z}
 use borrow.Author.Rules.{rules}
 use Rattle.map_builder.proofs.signs.natural.Statement.{statement}
 use Rattle.map_builder.proofs.signs.natural.Tie as tie
-use Rattle.map_builder.proofs.signs.natural.Reads as reads
-use Rattle.map_builder.proofs.signs.natural.Lts as lts
 
 cast-result : tie.Need-overflow_cast-result
 cast-result c = search rules

@@ -10,8 +10,6 @@ use Rattle.radix.specs.Radix.{max_count}
 use borrow.Author.Rules.{rules}
 use Rattle.map_builder.proofs.signs.negative.Statement.{statement}
 use Rattle.map_builder.proofs.signs.negative.Tie as tie
-use Rattle.map_builder.proofs.signs.negative.Reads as reads
-use Rattle.map_builder.proofs.signs.negative.Lts as lts
 
 below : (v : ℕ) → v ≤ max_count → SFits w64 (neg_ℤ (pos v))
 below zero h = record { sfits = omega arith }

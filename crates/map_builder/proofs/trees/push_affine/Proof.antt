@@ -7,12 +7,6 @@ use Rattle.map_builder.proofs.Steps.{pushed-grown, grown-then}
 use borrow.Author.Rules.{rules}
 use Rattle.map_builder.proofs.trees.push_affine.Statement.{statement}
 use Rattle.map_builder.proofs.trees.push_affine.Tie as tie
-use Rattle.map_builder.proofs.trees.push_affine.Reads as reads
-use Rattle.map_builder.proofs.trees.push_affine.Lts as lts
-use Rattle.map_builder.proofs.trees.push_constant.Reads as push-constant-reads
-use Rattle.map_builder.proofs.trees.push_product.Reads as push-product-reads
-use Rattle.map_builder.proofs.trees.push_sum.Reads as push-sum-reads
-use Rattle.map_builder.proofs.trees.push_variable.Reads as push-variable-reads
 
 push-variable-requires : tie.Need-push_variable-x-requires
 push-variable-requires c κs = search rules

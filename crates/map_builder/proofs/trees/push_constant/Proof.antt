@@ -5,9 +5,6 @@ use Rattle.map_builder.specs.Draft.{push_constant}
 use borrow.Author.Rules.{rules}
 use Rattle.map_builder.proofs.trees.push_constant.Statement.{statement}
 use Rattle.map_builder.proofs.trees.push_constant.Tie as tie
-use Rattle.map_builder.proofs.trees.push_constant.Reads as reads
-use Rattle.map_builder.proofs.trees.push_constant.Lts as lts
-use Rattle.map_builder.proofs.drafts.push_node.Reads as push-node-reads
 
 push-node-requires : tie.Need-push_node-requires
 push-node-requires c κs = search rules

@@ -5,9 +5,6 @@ use Rattle.map_builder.specs.Draft.{push_node}
 use borrow.Author.Rules.{rules}
 use Rattle.map_builder.proofs.trees.push_mod.Statement.{statement}
 use Rattle.map_builder.proofs.trees.push_mod.Tie as tie
-use Rattle.map_builder.proofs.trees.push_mod.Reads as reads
-use Rattle.map_builder.proofs.trees.push_mod.Lts as lts
-use Rattle.map_builder.proofs.drafts.push_node.Reads as push-node-reads
 
 cast-push-node : tie.Need-overflow_cast-divisor
 cast-push-node c = search rules

@@ -7,11 +7,6 @@ use Rattle.map_builder.proofs.Steps.{pushed-grown, grown-then}
 use borrow.Author.Rules.{rules}
 use Rattle.map_builder.proofs.trees.push_shifted.Statement.{statement}
 use Rattle.map_builder.proofs.trees.push_shifted.Tie as tie
-use Rattle.map_builder.proofs.trees.push_shifted.Reads as reads
-use Rattle.map_builder.proofs.trees.push_shifted.Lts as lts
-use Rattle.map_builder.proofs.trees.push_constant.Reads as push-constant-reads
-use Rattle.map_builder.proofs.trees.push_sum.Reads as push-sum-reads
-use Rattle.map_builder.proofs.trees.push_variable.Reads as push-variable-reads
 
 push-variable-requires : tie.Need-push_variable-x-requires
 push-variable-requires c κs = search rules

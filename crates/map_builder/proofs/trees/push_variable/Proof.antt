@@ -5,9 +5,6 @@ use Rattle.map_builder.specs.Draft.{push_node}
 use borrow.Author.Rules.{rules}
 use Rattle.map_builder.proofs.trees.push_variable.Statement.{statement}
 use Rattle.map_builder.proofs.trees.push_variable.Tie as tie
-use Rattle.map_builder.proofs.trees.push_variable.Reads as reads
-use Rattle.map_builder.proofs.trees.push_variable.Lts as lts
-use Rattle.map_builder.proofs.drafts.push_node.Reads as push-node-reads
 
 cast-push-node : tie.Need-overflow_cast-place
 cast-push-node c = search rules
