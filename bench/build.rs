@@ -1,5 +1,5 @@
-// Says where the library's static archives are, which `rt staticlib route_bench`, and so on for `fold_bench`, `gcd_bench`, `pack_bench`, `retile_bench` and
-// `table_bench`, writes, and those that `bench/before` makes.
+// Says where the library's static archives are: those of `route_bench`, `fold_bench`, `gcd_bench`, `pack_bench`, `retile_bench` and `table_bench`, which
+// `bench/run` makes, and those that `bench/before` makes.
 fn main() {
     let root = std::path::Path::new(env!("CARGO_MANIFEST_DIR")).parent().unwrap();
     println!("cargo:rustc-link-search=native={}", root.join("target/staticlib").display());
