@@ -10,7 +10,7 @@ use lib.ListN.{length, get_or}
 use Rattle.expression.specs.Expression.{Expr}
 use Rattle.expression.specs.Node.{node_of, nodes_at}
 use Rattle.expression.specs.Machine.{Out, broken, passed, stack, walk}
-use Rattle.expression.specs.Decode.{tree, tree_of, expr_alg, leaf_expr, one_expr, decode, is_tree, depth_step}
+use Rattle.expression.specs.Decode.{tree_of, expr_alg, leaf_expr, one_expr, decode, is_tree, depth_step}
 use Rattle.expression.specs.declared.Node.{Node}
 use Rattle.expression.specs.declared.Node.TheVariants as N
 use Rattle.expression.specs.declared.One.{One}

@@ -1,6 +1,5 @@
 -- The reckoned range of a tree by the bounds of its variables, and the machine that finds it. Assumes nothing.
 use Rattle.std.specs.Prelude.{Bool, true, false, cond, List, [], ◌∷◌, ℕ, ◌+◌, ◌≤◌, ℤ, pos, nat_abs, drop}
-use Rattle.integer.specs.Exact.{limit}
 use Rattle.integer.specs.declared.Exact.{Exact}
 use Rattle.integer.specs.declared.Exact.TheVariants.{Value, Passed}
 use Rattle.expression.specs.Expression.{floordiv, modulo, Range, span, add_range, mul_range, op_range, range_of, small_range, small_ranges}
@@ -8,7 +7,6 @@ use Rattle.expression.specs.Node.{max_variables, max_nodes}
 use Rattle.expression.specs.Machine.{Out, passed, stack, Alg}
 use Rattle.expression.specs.Decode.{Tree, none, tree}
 use Rattle.expression.specs.Value.{bounds, leaf_value}
-use Rattle.expression.specs.declared.Node.TheVariants as N
 use Rattle.expression.specs.declared.Leaf.{Leaf}
 use Rattle.expression.specs.declared.One.{One}
 use Rattle.expression.specs.declared.One.TheVariants.{Product, Floordiv, Mod}

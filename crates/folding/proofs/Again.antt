@@ -4,7 +4,7 @@ use mathlib.Core.Logic.{◌≢◌}
 use mathlib.Core.Bool.{Bool, true, false, cond}
 use Prim.Native.Nat.{ℕ, zero, suc, ◌+◌, ◌*◌, ◌^◌}
 use lib.Dec.{T}
-use lib.IntN.{ℤ, pos, negsuc, ◌+ℤ◌, ◌*ℤ◌, +ℤ_idl, *ℤ_comm, *ℤ-zero}
+use lib.IntN.{ℤ, pos, negsuc, +ℤ_idl, *ℤ_comm, *ℤ-zero}
 use Rattle.expression.specs.Expression.{Kind, Op, Expr, Range, eqℤ}
 use Rattle.expression.proofs.Within.{eqℤ-eq}
 use Rattle.folding.specs.Sum.{Atom, Sum, sum_size}

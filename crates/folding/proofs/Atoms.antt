@@ -1,7 +1,7 @@
 -- What holds at every variable of a tree and at every start of the rules holds at every atom of its folded sum. Assumes nothing.
 use mathlib.Core.Path.{subst}
 use mathlib.Core.Bool.{Bool, true, false, cond}
-use Prim.Native.Nat.{ℕ, zero, suc, ◌*◌, ◌≤◌, Ordering}
+use Prim.Native.Nat.{ℕ, zero, suc, ◌≤◌, Ordering}
 use native.Mathlib.Nat as NatL
 use lib.IntN.{ℤ, pos, negsuc, neg_ℤ, ◌+ℤ◌, ◌*ℤ◌}
 use Rattle.integer.specs.Floor.{floor_div}

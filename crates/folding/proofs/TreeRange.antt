@@ -7,7 +7,7 @@ use native.Mathlib.Omega.{arith}
 use native.Mathlib.Nat as NatL
 use borrow.Author.Tests.{leb-true, le-leb}
 use lib.Dec.{T}
-use lib.IntN.{ℤ, pos, negsuc, neg_ℤ, nat_abs, ◌+ℤ◌, ◌*ℤ◌, +ℤ_idl, +ℤ_idr, +ℤ_assoc}
+use lib.IntN.{ℤ, pos, negsuc, neg_ℤ, nat_abs, ◌*ℤ◌, +ℤ_idl, +ℤ_idr, +ℤ_assoc}
 use Rattle.integer.specs.Exact.{limit}
 use Rattle.radix.proofs.Tests.{and-true, and_left, and_right}
 use Rattle.expression.specs.Expression.{Kind, Expr, Range, span, eqℤ, add_range, mul_range, op_range, is_small, small_range, range_of}

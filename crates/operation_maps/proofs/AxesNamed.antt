@@ -1,7 +1,7 @@
 -- The two maps of an operation that treats each dimension by itself name its pairs. Assumes nothing.
 use mathlib.Core.Path.{◌≡◌, refl, sym, ap₂, ◌∙◌, subst}
 use mathlib.Core.List.{List, [], ◌∷◌, ◌++◌, map}
-use Prim.Native.Nat.{ℕ, zero, suc, ◌+◌, ◌-◌, ◌≤◌}
+use Prim.Native.Nat.{ℕ, zero, suc, ◌≤◌}
 use native.Mathlib.Omega.{arith}
 use lib.IntN.{ℤ, pos, negsuc}
 use lib.ListN.{get_or, drop}
@@ -96,6 +96,8 @@ module _ (f : Axis → Side) (R : Axis → ℕ → ℕ → Type 0) (local : (a :
 
   steps : (ρ : Kind → ℕ → ℤ) (k : ℕ) (axs : List Axis) (xs : List ℤ) → AllSound axs → At ρ k xs → Inside xs (bounds (sides axs)) → Holds ρ (side_tests (sides axs) k) → Steps ρ k axs xs
   steps ρ k [] [] g p points.none h = record { from = []; to = []; from_is = refl; to_is = refl; each = none }
+  steps ρ k [] (x ∷ xs) g p i h = elim i [ ]
+  steps ρ k (a ∷ axs) [] g p i h = elim i [ ]
   steps ρ k (a ∷ axs) (x ∷ xs) g p (points.more i j) h =
       let w = holds-split ρ ((f a).tests (Expr.var d k)) (side_tests (sides axs) (suc k)) h in
       let r = steps ρ (suc k) axs xs g.1 p.1 j w.1 in

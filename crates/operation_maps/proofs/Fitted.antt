@@ -2,7 +2,7 @@
 use mathlib.Core.Path.{◌≡◌, refl, sym, ap, ◌∙◌, subst}
 use mathlib.Core.Bool.{Bool, true, false, cond}
 use mathlib.Core.List.{List, [], ◌∷◌, ◌++◌, map}
-use Prim.Native.Nat.{ℕ, zero, suc, ◌+◌, ◌-◌, ◌*◌, ◌^◌, ◌<◌, ◌≤◌}
+use Prim.Native.Nat.{ℕ, zero, suc, ◌+◌, ◌*◌, ◌^◌, ◌<◌, ◌≤◌}
 use native.Mathlib.Nat.{mul-le-mul_right, mul-le-mul_left, mul-le-mul}
 use native.Mathlib.Omega.{arith}
 use borrow.Author.Tests.{ltb-true}
@@ -56,7 +56,7 @@ nodes-more x xs = length-append (postfix x) (nodes_of xs) ∙ ap (λ (n : ℕ). 
 abbrev pub Small : Axis → Type 0
 Small (Keep n) = Unit {0}
 Small (Flip n) = n ≤ 2 ^ 40
-Small (Cut start limit stride) = (start ≤ 2 ^ 40) × ((0 < stride) × (stride ≤ 2 ^ 40))
+Small (Cut start _ stride) = (start ≤ 2 ^ 40) × ((0 < stride) × (stride ≤ 2 ^ 40))
 Small (Shift by n) = by ≤ 2 ^ 40
 
 abbrev pub AllSmall : List Axis → Type 0

@@ -26,6 +26,8 @@ pub record Natural (xs : List ℤ) (ns : List ℕ) : Type 0 where
 
 pub inside-natural : (xs : List ℤ) (ns : List ℕ) → Positive ns → Inside xs (whole_of ns) → Natural xs ns
 inside-natural [] [] g points.none = record { point = []; is = refl; inside = none }
+inside-natural [] (n ∷ ns) g i = elim i [ ]
+inside-natural (x ∷ xs) [] g i = elim i [ ]
 inside-natural (x ∷ xs) (n ∷ ns) g (points.more h i) =
     let w = in_whole x 0 (n - 1) h in
     let r = inside-natural xs ns g.1 i in

@@ -1,5 +1,4 @@
 // The tokens of a line: bytes, words and numbers, with spaces between them.
-use check::same;
 
 // A place in a line. Once ok is false it stays at the token that cannot be read.
 #[derive(Clone, Copy)]
@@ -209,7 +208,7 @@ fn expect_bytes(line: &[u8], from: Cursor, token: Word, bytes: &[u8]) -> Cursor 
     if !from.ok {
         return from;
     }
-    if same(part(line, token.start, token.end), bytes) {
+    if part(line, token.start, token.end) == bytes {
         return Cursor {
             at: token.end,
             ok: true,

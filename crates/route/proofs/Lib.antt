@@ -8,5 +8,4 @@ pub mod PastCounts
 pub mod Forks
 pub mod RepeatAnswers
 pub mod Plans
-pub mod Machine
 pub mod Theorems

@@ -1,85 +1,70 @@
-// The output: bytes are put at a place of a buffer, which is written out when it is full. Each
-// function takes the place and answers the next one.
+// The output: each function puts bytes to a writer.
 #![tactic(auto)]
 
-use libc::STDOUT_FILENO;
+mod output;
+
+ghost use Rattle.std.specs.Prelude.{[], ◌∷◌, OnOk};
+ghost use Rattle.std.specs.Io.KnownBytes.{Appends};
+
+pub use output::Output;
 use refusal::Refusal;
+use std::io;
+use std::io::Write;
 
-// Writes out what stands before the place.
-pub fn flush(out: &[u8], at: usize) {
-    if at <= out.len() {
-        io::write_all(STDOUT_FILENO, &out[0..at]);
-    }
+// Writes out what the writer still holds.
+pub fn flush<W: Write>(out: &mut W) -> io::Result<()> {
+    out.flush()
 }
 
-pub fn put(out: &mut [u8], at: usize, byte: u8) -> usize {
-    if at < out.len() {
-        out[at] = byte;
-        return at + 1;
-    }
-    io::write_all(STDOUT_FILENO, out);
-    if 0 < out.len() {
-        out[0] = byte;
-        return 1;
-    }
-    0
+pub fn put<W: Write>(out: &mut W, byte: u8) -> io::Result<()>
+    ensures { OnOk result (Appends (W.contents out.old) (W.contents out.new) (byte ∷ [])) }
+{
+    out.write_all(&[byte])
 }
 
-pub fn text(out: &mut [u8], at: usize, bytes: &[u8]) -> usize {
-    let mut next = at;
-    let mut i = 0;
-    while i < bytes.len() {
-        next = put(out, next, bytes[i]);
-        i += 1;
-    }
-    next
+pub fn text<W: Write>(out: &mut W, bytes: &[u8]) -> io::Result<()>
+    ensures { OnOk result (Appends (W.contents out.old) (W.contents out.new) bytes.now) }
+{
+    out.write_all(bytes)
 }
 
-pub fn decimal(out: &mut [u8], at: usize, n: u64) -> usize {
-    let mut digits = [0u8; 20];
-    let k = io::decimal(n, &mut digits);
-    text(out, at, &digits[0..k])
+pub fn decimal<W: Write>(out: &mut W, n: u64) -> io::Result<()> {
+    write!(out, "{n}")
 }
 
 // A number with its sign.
-pub fn signed(out: &mut [u8], at: usize, z: i64) -> usize {
-    if z < 0 {
-        let next = put(out, at, b'-');
-        return decimal(out, next, integer::magnitude(z));
-    }
-    decimal(out, at, integer::magnitude(z))
+pub fn signed<W: Write>(out: &mut W, z: i64) -> io::Result<()> {
+    write!(out, "{z}")
 }
 
 // The two ends of an interval, between brackets.
-pub fn interval(out: &mut [u8], at: usize, lower: i64, upper: i64) -> usize {
-    let next = put(out, at, b'[');
-    let next = signed(out, next, lower);
-    let next = text(out, next, b", ");
-    let next = signed(out, next, upper);
-    put(out, next, b']')
+pub fn interval<W: Write>(out: &mut W, lower: i64, upper: i64) -> io::Result<()> {
+    write!(out, "[{lower}, {upper}]")
 }
 
 // How many decimal digits a number has.
 pub fn width(n: u64) -> usize {
-    let mut digits = [0u8; 20];
-    io::decimal(n, &mut digits)
+    let mut digits = 1;
+    let mut rest = n / 10;
+    while rest > 0 {
+        rest /= 10;
+        digits += 1;
+    }
+    digits
 }
 
 // A number at the right end of a field.
-pub fn aligned(out: &mut [u8], at: usize, n: u64, field: usize) -> usize {
-    let mut next = at;
-    let mut i = width(n);
-    while i < field {
-        next = put(out, next, b' ');
-        i += 1;
+pub fn aligned<W: Write>(out: &mut W, n: u64, field: usize) -> io::Result<()> {
+    for _ in width(n)..field {
+        put(out, b' ')?;
     }
-    decimal(out, next, n)
+    decimal(out, n)
 }
 
 // Words and a number.
-pub fn labelled(out: &mut [u8], at: usize, label: &[u8], n: u64) -> usize {
-    let next = text(out, at, label);
-    decimal(out, next, n)
+pub fn labelled<W: Write>(out: &mut W, label: &[u8], n: u64) -> io::Result<()> {
+    text(out, label)?;
+    decimal(out, n)
 }
 
 // The pattern of a binary64 number. The library's are no NaN, which has no pattern here.
@@ -88,68 +73,66 @@ fn bits(x: f64) -> u64 {
 }
 
 // Words and the pattern of a binary64 number, in 16 digits.
-pub fn pattern(out: &mut [u8], at: usize, label: &[u8], x: f64) -> usize {
-    let next = text(out, at, label);
-    let mut digits = [0u8; 16];
-    let k = io::hex(bits(x), 16, &mut digits);
-    text(out, next, &digits[0..k])
+pub fn pattern<W: Write>(out: &mut W, label: &[u8], x: f64) -> io::Result<()> {
+    let digits = bits(x);
+    text(out, label)?;
+    write!(out, "{digits:016x}")
 }
 
 // A coordinate, behind a comma where it is not the first.
-fn coordinate(out: &mut [u8], at: usize, place: usize, n: u64) -> usize {
+fn coordinate<W: Write>(out: &mut W, place: usize, n: u64) -> io::Result<()> {
     if place == 0 {
-        return decimal(out, at, n);
+        return decimal(out, n);
     }
-    labelled(out, at, b", ", n)
+    labelled(out, b", ", n)
 }
 
 // Coordinates, between parentheses.
-pub fn coordinates(out: &mut [u8], at: usize, point: &[u64]) -> usize {
-    let mut next = put(out, at, b'(');
-    let mut i = 0;
-    while i < point.len() {
-        next = coordinate(out, next, i, point[i]);
-        i += 1;
+pub fn coordinates<W: Write>(out: &mut W, point: &[u64]) -> io::Result<()> {
+    put(out, b'(')?;
+    for (i, n) in point.iter().enumerate() {
+        coordinate(out, i, *n)?;
     }
-    put(out, next, b')')
+    put(out, b')')
 }
 
 // Words and the first numbers, as many as count says and there are, each behind a space.
-pub fn values(out: &mut [u8], at: usize, label: &[u8], numbers: &[u32], count: u64) -> usize {
-    let mut next = text(out, at, label);
+pub fn values<W: Write>(out: &mut W, label: &[u8], numbers: &[u32], count: u64) -> io::Result<()> {
+    text(out, label)?;
     let mut left = count;
-    let mut i = 0;
-    while i < numbers.len() && left > 0 {
-        next = spaced(out, next, wide(numbers[i]));
+    for n in numbers {
+        if left == 0 {
+            return Ok(());
+        }
+        spaced(out, wide(*n))?;
         left -= 1;
-        i += 1;
     }
-    next
+    Ok(())
 }
 
 // A number behind a space.
-pub fn spaced(out: &mut [u8], at: usize, n: u64) -> usize {
-    let next = put(out, at, b' ');
-    decimal(out, next, n)
+pub fn spaced<W: Write>(out: &mut W, n: u64) -> io::Result<()> {
+    put(out, b' ')?;
+    decimal(out, n)
 }
 
 pub fn wide(x: u32) -> u64 {
     x as u64
 }
 
-pub fn refused(out: &mut [u8], at: usize, refusal: Refusal) -> usize {
-    let next = labelled(out, at, b"refused ", refusal::number(refusal));
+pub fn refused<W: Write>(out: &mut W, refusal: Refusal) -> io::Result<()> {
+    labelled(out, b"refused ", refusal::number(refusal))?;
     match refusal {
         Refusal::Repeat(earlier, later) => {
-            let next = labelled(out, next, b" at ", earlier as u64);
-            labelled(out, next, b" ", later as u64)
+            labelled(out, b" at ", earlier as u64)?;
+            labelled(out, b" ", later as u64)
         }
         Refusal::RepeatedLayout(station, earlier, later) => {
-            let next = labelled(out, next, b" at ", station as u64);
-            let next = labelled(out, next, b" ", earlier as u64);
-            labelled(out, next, b" ", later as u64)
+            labelled(out, b" at ", station as u64)?;
+            labelled(out, b" ", earlier as u64)?;
+            labelled(out, b" ", later as u64)
         }
-        _ => next,
+        _ => Ok(()),
     }
 }
 
@@ -159,11 +142,11 @@ fn column_of(place: u64) -> u64 {
 }
 
 // Words and a place in the line.
-pub fn column(out: &mut [u8], at: usize, words: &[u8], place: usize) -> usize {
-    let next = text(out, at, words);
-    labelled(out, next, b" at column ", column_of(place as u64))
+pub fn column<W: Write>(out: &mut W, words: &[u8], place: usize) -> io::Result<()> {
+    text(out, words)?;
+    labelled(out, b" at column ", column_of(place as u64))
 }
 
-pub fn error(out: &mut [u8], at: usize, place: usize) -> usize {
-    column(out, at, b"error: cannot read the request", place)
+pub fn error<W: Write>(out: &mut W, place: usize) -> io::Result<()> {
+    column(out, b"error: cannot read the request", place)
 }

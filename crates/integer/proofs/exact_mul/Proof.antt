@@ -3,6 +3,7 @@ use borrow.Author.Rules.{rules, sfits_of}
 use mathlib.Core.Path.{sym, ap, ◌∙◌}
 use native.Mathlib.Omega.{arith}
 use lib.IntN.{pos, ◌*ℤ◌, zero-*ℤ}
+use mir.Syntax.{w64}
 use mir.Facts.{to_z-of_z}
 use Rattle.integer.specs.declared.Exact.TheVariants.{Value}
 use Rattle.integer.specs.Exact.{limit}
@@ -51,7 +52,7 @@ returns-3 c =
     let y = rw (to_z-of_z s.ranges.b) at k.magnitude-y.ensures in
     let h = rw (x, y) at (product-in limit _ _ k.if-x-eq0.false k.if-x-y.false) in
     let e = simp (x, y, to_z-of_z s.ranges.a, to_z-of_z s.ranges.b) at c.with_sign.ensures in
-    ap Value (to_z-of_z (sfits_of c.with_sign.type_inv) ∙ e ∙ mul-signed s.args.a s.args.b)
+    ap Value (to_z-of_z {w = w64} (sfits_of c.with_sign.type_inv) ∙ e ∙ mul-signed s.args.a s.args.b)
     ∙ sym (exact-in (s.args.a *ℤ s.args.b) (rw abs-mul h))
 
 pub exact_mul_spec : {M : Type 1} → statement M

@@ -31,7 +31,7 @@ judged :
     Judges c.args.shape c.args.loaded c.args.len
     c.args.number c.args.cells c.args.moves Done
 judged c =
-    let s = c.before.before.before in
+    let s = c.before.before in
     subst (λ (v : Verdict). Judges s.args.shape s.args.loaded s.args.len s.args.number s.args.cells s.args.moves v) c.in-Done.is
     c.judge_route.ensures
 
@@ -53,7 +53,7 @@ tables-usable :
     (let s = c.args in
     Usable s.loaded.parents s.loaded.counts s.loaded.sizes s.loaded.moved s.number s.cells)
 tables-usable c =
-    let s = c.before.before.before in
+    let s = c.before.before in
     usable s.args.loaded _ _ _ (parents-long s) (counts-long s) (sizes-long s) (moved-long s) s.requires (limited _ _ _ ((judged c).limits refl))
 
 best-tree-plan-requires : tie.Need-best_tree_plan-p-requires

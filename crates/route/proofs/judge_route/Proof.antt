@@ -10,22 +10,22 @@ use Rattle.route.proofs.judge_route.Statement.{statement}
 use Rattle.route.proofs.judge_route.Tie as tie
 
 shape : (c : tie.Else-not-good_shape) → good_shape c.args.shape ≡ true
-shape c = sym c.good_shape.ensures ∙ not-false _ c.if-not-good_shape.false-raw
+shape c = sym c.good_shape.ensures ∙ c.if-not-good_shape.false
 
 limits : (c : tie.Else-not-good_limits) → good_limits c.args.number c.args.cells c.args.moves ≡ true
-limits c = sym c.good_limits.ensures ∙ not-false _ c.if-not-good_limits.false-raw
+limits c = sym c.good_limits.ensures ∙ c.if-not-good_limits.false
 
 good-shape-requires : tie.Need-good_shape-requires
 good-shape-requires c κs = search rules
 
 returns : tie.Need-returns-then-not-good_shape
-returns c = no-shape _ _ _ _ _ _ (sym c.good_shape.ensures ∙ not-true _ c.if-not-good_shape.true-raw)
+returns c = no-shape _ _ _ _ _ _ (sym c.good_shape.ensures ∙ c.if-not-good_shape.true)
 
 good-limits-requires : tie.Need-good_limits-requires
 good-limits-requires c κs = search rules
 
 returns-2 : tie.Need-returns-then-not-good_limits
-returns-2 c = no-limits _ _ _ _ _ _ (shape c.before.before) (sym c.good_limits.ensures ∙ not-true _ c.if-not-good_limits.true-raw)
+returns-2 c = no-limits _ _ _ _ _ _ (shape c.before.before) (sym c.good_limits.ensures ∙ c.if-not-good_limits.true)
 
 returns-3 : tie.Need-returns-then-not-loaded
 returns-3 c =

@@ -26,7 +26,7 @@ slice-aggregate-least-weight-6 c = search rules
 
 least-weight-requires : tie.Need-least_weight-w-requires
 least-weight-requires c κs =
-    let s = c.before.before.before.before.before.before.before.before.before.before in (
+    let s = c in (
       s.requires,
       (
         record { sound = zero-sound 131072; long = length-replicate {A = ℕ} 131072 0 },
@@ -36,12 +36,12 @@ least-weight-requires c κs =
 
 plan-of-requires : tie.Need-plan_of-requires
 plan-of-requires c κs =
-    let s = c.before.before.before.before.before.before.before.before.before.before.before.before.before in
+    let s = c in
     (c.least_weight-w.ensures.1, s.requires.0.few)
 
 returns : tie.Need-returns
 returns c =
-    let s = c.before.before.before.before.before.before.before.before.before.before.before.before.before.before in
+    let s = c in
     plan-is _ _ _ _ _ _ s.args.moves s.requires.0 _ _ c.plan_of.ensures c.least_weight-w.ensures.0
 
 pub best_tree_plan_spec : {M : Type 1} → statement M

@@ -17,7 +17,7 @@ decreases-loop table₀ row room columns k₀ table k = columns - k
 
 loop-holds : tie.Need-loop-k-init invariant-loop decreases-loop
 loop-holds c =
-    let s = c.before.before in
+    let s = c in
     (omega arith, row-none _ _ _ s.requires.0.sound)
 
 mul-store : tie.Need-overflow_mul-row invariant-loop decreases-loop
@@ -34,12 +34,12 @@ add-load c = search rules
 
 load-requires : tie.Need-load-requires invariant-loop decreases-loop
 load-requires c κs =
-    let s = c.before.before.before.before.before in
+    let s = c in
     (omega (arith, s.requires.3), omega (arith, s.requires.3, s.requires.1.long))
 
 store-requires : tie.Need-store-requires invariant-loop decreases-loop
 store-requires c κs =
-    let s = c.before.before.before.before.before.before in
+    let s = c in
     let i = c.loop-k.invariant in
     (omega (arith, s.requires.2, s.requires.3), omega (arith, i.1.long, s.requires.0.long, s.requires.2, s.requires.3))
 
@@ -51,7 +51,7 @@ loop-less c = omega arith
 
 loop-again : tie.Need-loop-k-preserved invariant-loop decreases-loop
 loop-again c =
-    let s = c.before.before.before.before.before.before.before.before.before in
+    let s = c in
     let i = c.loop-k.invariant in (
       omega arith,
       row_next _ _ _ _ _ _ _ (omega (arith, s.requires.3)) i.1 refl

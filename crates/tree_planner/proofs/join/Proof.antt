@@ -20,12 +20,12 @@ decreases-loop sizes cells u count merged table₀ room₀ columns a₀ table ro
 
 loop-holds : tie.Need-loop-a-init invariant-loop decreases-loop
 loop-holds c =
-    let s = c.before.before.before in
+    let s = c in
     (omega arith, rows_start _ _ _ _ s.requires.0.2.sound, kept_same _ s.requires.0.3.sound)
 
 join-row-requires : tie.Need-join_row-requires invariant-loop decreases-loop
 join-row-requires c κs =
-    let s = c.before.before.before.before.before.before.before in
+    let s = c in
     let i = c.loop-a.invariant in (
       (
         s.requires.0.0,
@@ -38,7 +38,7 @@ join-row-requires c κs =
 
 add_a : tie.Need-overflow_add-a invariant-loop decreases-loop
 add_a c =
-    let s = c.before.before.before.before.before.before.before.before.before.before.before.before in
+    let s = c in
     omega (arith, s.requires.1)
 
 loop-less : tie.Need-loop-a-smaller invariant-loop decreases-loop
@@ -46,7 +46,7 @@ loop-less c = omega arith
 
 loop-again : tie.Need-loop-a-preserved invariant-loop decreases-loop
 loop-again c =
-    let s = c.before.before.before.before.before.before.before.before.before.before.before.before in
+    let s = c in
     let i = c.loop-a.invariant in (
       omega arith,
       rows_next _ _ _ _ _ _ _ _ _ s.requires.1.2 refl

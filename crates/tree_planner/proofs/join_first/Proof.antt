@@ -26,7 +26,7 @@ far-requires c κs = search rules
 
 loop-holds : tie.Need-loop-k-init invariant-loop decreases-loop
 loop-holds c =
-    let s = c.before.before.before in
+    let s = c in
     (omega arith, row-none _ _ _ s.requires.0.0.sound, scan-first _ _ c.far-best.ensures.0, c.far-best.ensures.1)
 
 mul-load : tie.Need-overflow_mul-a invariant-loop decreases-loop
@@ -37,12 +37,12 @@ add-load c = search rules
 
 load-requires : tie.Need-load-requires invariant-loop decreases-loop
 load-requires c κs =
-    let s = c.before.before.before.before.before in
+    let s = c in
     (omega (arith, s.requires.1), omega (arith, s.requires.1, s.requires.0.1.long))
 
 sum-requires : tie.Need-sum-requires invariant-loop decreases-loop
 sum-requires c κs =
-    let s = c.before.before.before.before.before.before in
+    let s = c in
     (s.requires.0.2, good-at _ _ _ s.requires.0.1.sound c.load.ensures)
 
 smaller-requires : tie.Need-smaller-best-requires invariant-loop decreases-loop
@@ -58,7 +58,7 @@ add-store c = search rules
 
 store-requires : tie.Need-store-requires invariant-loop decreases-loop
 store-requires c κs =
-    let s = c.before.before.before.before.before.before.before.before.before in
+    let s = c in
     let i = c.loop-k.invariant in
     (omega (arith, s.requires.1), omega (arith, i.1.long, s.requires.1, s.requires.0.0.long))
 
@@ -70,10 +70,10 @@ loop-less c = omega arith
 
 loop-again : tie.Need-loop-k-preserved invariant-loop decreases-loop
 loop-again c =
-    let s = c.before.before.before.before.before.before.before.before.before.before.before.before in
+    let s = c in
     let i = c.loop-k.invariant in
     let lowered =
-    scan-next _ _ _ _ _ i.2 (c.sum.ensures.0 ∙ ap (λ w. value_of s.args.own_val + value_of w) c.load.ensures)
+    scan-next _ _ _ _ _ i.2 (c.sum.ensures.0 ∙ ap (λ w. value_of s.args.own + value_of w) c.load.ensures)
     c.smaller-best.ensures.0 in (
       omega arith,
       row_next _ _ _ _ _ _ _ (omega (arith, s.requires.1)) i.1 (scan-row _ _ _ _ _ lowered)

@@ -21,7 +21,7 @@ far-requires c κs = search rules
 
 start-row-requires : tie.Need-start_row-requires invariant-loop decreases-loop
 start-row-requires c κs =
-    let s = c.before.before.before.before in
+    let s = c in
     (s.requires.0.1.sound, omega arith, omega (arith, s.requires.0.1.long), c.far.ensures.1, s.requires.1.2)
 
 loop-holds : tie.Need-loop-j-init invariant-loop decreases-loop
@@ -35,7 +35,7 @@ add-load c = search rules
 
 load-requires : tie.Need-load-extra-requires invariant-loop decreases-loop
 load-requires c κs =
-    let s = c.before.before.before.before.before.before.before.before.before.before in
+    let s = c in
     let i = c.loop-j.invariant in (
       omega (arith, s.requires.1),
       omega (arith, i.1.long, c.start_row.ensures.long, s.requires.0.1.long, s.requires.1),
@@ -43,7 +43,7 @@ load-requires c κs =
 
 lower-row-requires : tie.Need-lower_row-requires invariant-loop decreases-loop
 lower-row-requires c κs =
-    let s = c.before.before.before.before.before.before.before.before.before.before.before.before.before in
+    let s = c in
     let i = c.loop-j.invariant in (
       (record { sound = i.1.sound; long = i.1.long ∙ c.start_row.ensures.long ∙ s.requires.0.1.long }, s.requires.0.0, good-at _ _ _ i.1.sound c.load-extra.ensures),
       (omega arith, s.requires.1.0, omega arith, s.requires.1.2),
@@ -57,7 +57,7 @@ loop-less c = omega arith
 
 loop-again : tie.Need-loop-j-preserved invariant-loop decreases-loop
 loop-again c =
-    let s = c.before.before.before.before.before.before.before.before.before.before.before.before.before.before.before.before in
+    let s = c in
     let i = c.loop-j.invariant in (
       omega arith,
       lowest-next _ _ _ _ _ _ _ _ _ _ _
@@ -68,7 +68,7 @@ loop-again c =
 
 copy-row-requires : tie.Need-copy_row-requires invariant-loop decreases-loop
 copy-row-requires c κs =
-    let s = c.before.before.before.before.before.before.before.before.before.before.before in
+    let s = c in
     let i = c.loop-j.invariant in
     (s.requires.0.0, record { sound = i.1.sound; long = i.1.long ∙ c.start_row.ensures.long ∙ s.requires.0.1.long }, s.requires.1.0, s.requires.1.2)
 
@@ -82,7 +82,7 @@ same-length-2 c =
 
 returns : tie.Need-returns invariant-loop decreases-loop
 returns c =
-    let s = c.before.before.before.before.before.before.before.before.before.before.before.before.before.before in
+    let s = c in
     let i = c.loop-j.invariant in
     let all = lowest-end _ _ _ _ _ _ _ i.0 c.loop-j-test.false i.1 in (
       split-row _ _ _ _ _ _ _ s.requires.1.1 s.requires.1.2 _ c.start_row.ensures all _ c.copy_row.ensures,

@@ -15,7 +15,7 @@ add-join-further c = search rules
 
 join-further-requires : tie.Need-join_further-requires
 join-further-requires c κs =
-    let s = c.before.before.before.before.before.before in
+    let s = c in
     ((s.requires.0.2, s.requires.0.3), (omega (arith, s.requires.1), s.requires.1.1, s.requires.1.2))
 
 same_length : tie.Need-shape_of-table-then-merged
@@ -38,13 +38,13 @@ add-join-first c = search rules
 
 own-of-requires : tie.Need-own_of-requires
 own-of-requires c κs =
-    let s = c.before.before.before.before.before in
+    let s = c in
     (s.requires.0.0, s.requires.0.1, s.requires.1.0, s.requires.1.1)
 
 join-first-requires : tie.Need-join_first-requires
 join-first-requires c κs =
-    let s = c.before.before.before.before.before.before.before in
-    ((s.requires.0.2, s.requires.0.3, c.own_of_lem.ensures.1), (omega (arith, s.requires.1), s.requires.1.1, s.requires.1.2))
+    let s = c in
+    ((s.requires.0.2, s.requires.0.3, c.own_of.ensures.1), (omega (arith, s.requires.1), s.requires.1.1, s.requires.1.2))
 
 same-length-3 : tie.Need-shape_of-table
 same-length-3 c = c.join_first.ensures.long
@@ -54,8 +54,8 @@ same-length-4 c = search rules
 
 returns-2 : tie.Need-returns
 returns-2 c =
-    let s = c.before.before.before.before.before.before.before.before.before.before in (
-      together-agree _ _ _ _ _ _ _ _ (λ k. c.own_of_lem.ensures.0 ∙ sym (held-own _ _ _ _ _ _ _ c.if-merged.false)) c.join_first.ensures,
+    let s = c in (
+      together-agree _ _ _ _ _ _ _ _ (λ k. c.own_of.ensures.0 ∙ sym (held-own _ _ _ _ _ _ _ c.if-merged.false)) c.join_first.ensures,
       kept_same _ s.requires.0.3.sound,
     )
 

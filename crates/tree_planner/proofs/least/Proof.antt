@@ -30,12 +30,12 @@ add-load c = search rules
 
 load-requires : tie.Need-load-requires invariant-loop decreases-loop
 load-requires c κs =
-    let s = c.before.before.before.before in
+    let s = c in
     (omega arith, omega (arith, s.requires.0.long))
 
 smaller-requires : tie.Need-smaller-best-requires invariant-loop decreases-loop
 smaller-requires c κs =
-    let s = c.before.before.before.before.before in
+    let s = c in
     let i = c.loop-b.invariant in
     (i.2, (good-at _ _ _ s.requires.0.sound c.load.ensures).words)
 

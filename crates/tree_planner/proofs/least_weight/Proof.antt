@@ -11,22 +11,22 @@ add-columns c = search rules
 
 merge-all-requires : tie.Need-merge_all-requires
 merge-all-requires c κs =
-    let s = c.before.before.before.before.before.before.before.before in
+    let s = c in
     (s.requires.0.0, (s.requires.1.0, s.requires.1.1, record { some = omega arith; few = omega (arith, s.requires.0.1) }))
 
 shared-slice-read-count : tie.Need-bounds-counts-0
 shared-slice-read-count c =
-    let s = c.before.before.before.before.before.before.before.before.before.before.before.before.before.before in
+    let s = c in
     omega (arith, s.requires.0.0.counts-in)
 
 has-child-requires : tie.Need-has_child-branch-requires
 has-child-requires c κs =
-    let s = c.before.before.before.before.before.before.before.before.before.before.before.before.before.before in
+    let s = c in
     (s.requires.0.0.parents-in, s.requires.0.0.few, s.requires.0.0.some)
 
 ready-requires : tie.Need-ready-requires
 ready-requires c κs =
-    let s = c.before.before.before.before.before.before.before.before.before.before.before.before.before.before.before.before in (
+    let s = c in (
       (
         s.requires.0.0.sizes-in,
         s.requires.0.0.cells_in,
@@ -37,7 +37,7 @@ ready-requires c κs =
 
 least-requires : tie.Need-least-requires
 least-requires c κs =
-    let s = c.before.before.before.before.before.before.before.before.before.before.before.before.before.before.before.before.before.before.before.before in (
+    let s = c in (
       record { sound = c.ready.ensures.sound; long = c.ready.ensures.long ∙ c.merge_all.ensures.long },
       s.requires.0.0.count 0,
       s.requires.0.1,

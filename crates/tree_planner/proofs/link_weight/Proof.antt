@@ -18,22 +18,22 @@ shared-slice-read-move-price-2 c = search rules
 
 move-price-requires : tie.Need-move_price-requires
 move-price-requires c κs =
-    let s = c.before.before.before in
+    let s = c in
     (s.requires.0.1 _, s.requires.0.1 _)
 
 mul-cost : tie.Need-overflow_mul-cost
 mul-cost c =
-    let s = c.before.before.before.before in
+    let s = c in
     record { fits = cost-fits _ _ s.requires.1.0 c.move_price.ensures.1 }
 
 mul-t6 : tie.Need-overflow_mul-result
 mul-t6 c =
-    let s = c.before.before.before.before in
+    let s = c in
     record { fits = top-fits _ _ s.requires.1.0 c.move_price.ensures.1 }
 
 returns : tie.Need-returns
 returns c =
-    let s = c.before.before.before.before in
+    let s = c in
     link-value _ _ _ s.requires.1.0 c.move_price.ensures.1 c.move_price.ensures.0
 
 pub link_weight_spec : {M : Type 1} → statement M

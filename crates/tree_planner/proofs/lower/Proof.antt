@@ -18,7 +18,7 @@ add-if1 c = search rules
 
 returns : tie.Need-returns-then-table-at
 returns c =
-    let s = c.before.before.before.before.before in
+    let s = c in
     entry-above _ _ _ _ s.requires.0 c.if-table-at.true
 
 sum-requires : tie.Need-sum-w-requires
@@ -29,7 +29,7 @@ load-requires c κs = search rules
 
 less-requires : tie.Need-less-requires
 less-requires c κs =
-    let s = c.before.before.before.before.before.before.before.before in
+    let s = c in
     (c.sum-w.ensures.1, (good-at _ _ _ s.requires.0 c.load.ensures).words)
 
 store-requires : tie.Need-store-requires
@@ -40,7 +40,7 @@ same_length c = search rules
 
 returns-2 : tie.Need-returns-then-less
 returns-2 c =
-    let s = c.before.before.before.before.before.before.before.before.before.before.before.before.before.before in
+    let s = c in
     entry-lower _ _ _ _ s.requires.0 _ _ c.sum-w.ensures.1 c.sum-w.ensures.0 c.load.ensures _ c.less.ensures _ c.if-less.true c.store.ensures
 
 same-length-2 : tie.Need-shape_of-table-else-less
@@ -48,7 +48,7 @@ same-length-2 c = search rules
 
 returns-3 : tie.Need-returns-else-less
 returns-3 c =
-    let s = c.before.before.before.before.before.before.before.before.before.before in
+    let s = c in
     entry_kept _ _ _ _ s.requires.0 _ _ c.sum-w.ensures.1 c.sum-w.ensures.0 c.load.ensures _ c.less.ensures c.if-less.false
 
 pub lower_spec : {M : Type 1} → statement M

@@ -17,7 +17,7 @@ decreases-loop room₀ to table row taken extra columns k₀ room k = columns - 
 
 loop-holds : tie.Need-loop-k-init invariant-loop decreases-loop
 loop-holds c =
-    let s = c.before.before in
+    let s = c in
     (omega arith, s.requires.1.2, row-start _ _ _ _ s.requires.0.0.sound (λ x l. lowered-start _ _ _ _ _ _ _ l))
 
 mul-load : tie.Need-overflow_mul-row invariant-loop decreases-loop
@@ -31,7 +31,7 @@ add-load c = search rules
 
 load-requires : tie.Need-load-x-requires invariant-loop decreases-loop
 load-requires c κs =
-    let s = c.before.before.before.before in
+    let s = c in
     (omega (arith, s.requires.1), omega (arith, s.requires.1, s.requires.0.1.long))
 
 mul-lower : tie.Need-overflow_mul-to invariant-loop decreases-loop
@@ -42,7 +42,7 @@ add-lower c = search rules
 
 lower-requires : tie.Need-lower-requires invariant-loop decreases-loop
 lower-requires c κs =
-    let s = c.before.before.before.before.before.before in
+    let s = c in
     let i = c.loop-k.invariant in (
       i.2.sound,
       omega (arith, s.requires.1),
@@ -59,7 +59,7 @@ loop-less c = omega arith
 
 loop-again : tie.Need-loop-k-preserved invariant-loop decreases-loop
 loop-again c =
-    let s = c.before.before.before.before.before.before.before.before.before in
+    let s = c in
     let i = c.loop-k.invariant in (
       omega arith,
       omega arith,

@@ -20,12 +20,12 @@ sub-v c = search rules
 
 loop-holds : tie.Need-loop-v-init invariant-loop decreases-loop
 loop-holds c =
-    let s = c.before.before.before.before.before.before in
+    let s = c in
     (omega arith, shrink-start _ _ _ _ _ _ s.requires.0 _ _ s.requires.1.0.long s.requires.1.0.sound, s.requires.1.1)
 
 merge-one-requires : tie.Need-merge_one-requires invariant-loop decreases-loop
 merge-one-requires c κs =
-    let s = c.before.before.before.before.before.before.before.before.before.before in
+    let s = c in
     let i = c.loop-v.invariant in (
       s.requires.0,
       (
@@ -45,7 +45,7 @@ loop-less c = omega arith
 
 loop-again : tie.Need-loop-v-preserved invariant-loop decreases-loop
 loop-again c =
-    let s = c.before.before.before.before.before.before.before.before.before.before.before.before.before.before.before in
+    let s = c in
     let i = c.loop-v.invariant in (
       omega arith,
       shrink-next _ _ _ _ _ _ s.requires.0 _ _ _ _ c.loop-v-test.true i.0 i.1 c.merge_one.ensures.0,
@@ -54,17 +54,17 @@ loop-again c =
 
 same_length : tie.Need-shape_of-table invariant-loop decreases-loop
 same_length c =
-    let s = c.before.before.before.before.before.before.before.before in
+    let s = c in
     c.loop-v.invariant.1.long ∙ sym s.requires.1.0.long
 
 same-length-2 : tie.Need-shape_of-room invariant-loop decreases-loop
 same-length-2 c =
-    let s = c.before.before.before.before.before.before.before.before in
+    let s = c in
     c.loop-v.invariant.2.long ∙ sym s.requires.1.1.long
 
 returns : tie.Need-returns invariant-loop decreases-loop
 returns c =
-    let s = c.before.before.before.before.before.before.before.before in
+    let s = c in
     shrink-end _ _ _ _ _ _ s.requires.0 _ _ _ c.loop-v-test.false c.loop-v.invariant.1
 
 pub merge_all_spec : {M : Type 1} → statement M

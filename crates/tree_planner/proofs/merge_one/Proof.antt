@@ -14,12 +14,12 @@ shared-slice-read-u c = search rules
 
 mul-places : tie.Need-offset_bounds-counts-u
 mul-places c =
-    let s = c.before.before.before.before.before.before.before in
+    let s = c in
     omega (arith, parent-low _ _ _ _ _ _ s.requires.0 s.args.v s.requires.1.2 s.requires.1.3, s.requires.0.few, s.requires.1.3)
 
 shared-slice-read-places : tie.Need-bounds-counts-u
 shared-slice-read-places c =
-    let s = c.before.before.before.before.before.before.before.before in
+    let s = c in
     omega (arith, parent-low _ _ _ _ _ _ s.requires.0 s.args.v s.requires.1.2 s.requires.1.3, s.requires.0.few, s.requires.1.3, s.requires.0.counts-in)
 
 mul-count : tie.Need-offset_bounds-counts-v
@@ -30,19 +30,19 @@ shared-slice-read-count c = search rules
 
 has-child-requires : tie.Need-has_child-branch-requires
 has-child-requires c κs =
-    let s = c.before.before.before.before.before.before.before.before.before in
+    let s = c in
     (s.requires.0.parents-in, s.requires.0.few, s.requires.1.3)
 
 ready-requires : tie.Need-ready-requires
 ready-requires c κs =
-    let s = c.before.before.before.before.before.before.before.before.before.before.before in (
+    let s = c in (
       (s.requires.0.sizes-in, s.requires.0.cells_in, s.requires.1.0),
       (omega (arith, s.requires.0.few, s.requires.1.3), s.requires.0.count _, s.requires.1.4.few),
     )
 
 reach-requires : tie.Need-reach-requires
 reach-requires c κs =
-    let s = c.before.before.before.before.before.before.before.before.before.before.before.before.before.before.before.before in (
+    let s = c in (
       (priced _ _ _ _ _ _ s.requires.0, record { sound = c.ready.ensures.sound; long = c.ready.ensures.long ∙ s.requires.1.0.long }, s.requires.1.1),
       (
         omega (arith, parent-low _ _ _ _ _ _ s.requires.0 s.args.v s.requires.1.2 s.requires.1.3, s.requires.0.few, s.requires.1.3),
@@ -55,12 +55,12 @@ reach-requires c κs =
 
 has-child-requires-2 : tie.Need-has_child-forked-requires
 has-child-requires-2 c κs =
-    let s = c.before.before.before.before.before.before.before.before.before.before.before.before.before.before.before.before.before.before.before in
+    let s = c in
     (s.requires.0.parents-in, s.requires.0.few, s.requires.1.3)
 
 join-requires : tie.Need-join-requires
 join-requires c κs =
-    let s = c.before.before.before.before.before.before.before.before.before.before.before.before.before.before.before.before.before.before.before.before.before.before in (
+    let s = c in (
       (
         s.requires.0.sizes-in,
         s.requires.0.cells_in,
@@ -82,7 +82,7 @@ same-length-2 c = c.join.ensures.1.long ∙ c.reach.ensures.long
 
 returns : tie.Need-returns
 returns c =
-    let s = c.before.before.before.before.before.before.before.before.before.before.before.before.before.before.before.before.before.before.before.before.before.before.before.before.before.before.before in (
+    let s = c in (
       merge-made _ _ _ _ _ _ s.requires.0 _ _ s.requires.1.4.few s.requires.1.2 s.requires.1.3 _ _ _ _ _ _ c.has_child-branch.ensures c.ready.ensures
           c.reach.ensures
           _

@@ -21,7 +21,7 @@ far-requires c κs = search rules
 
 returns : tie.Need-returns-then-cells-size
 returns c =
-    let s = c.before.before.before.before in
+    let s = c in
     (own-none _ _ _ _ s.requires.1 s.requires.3 c.if-cells-size.true _ c.far.ensures.0, c.far.ensures.1)
 
 mul-w : tie.Need-overflow_mul-w
@@ -35,7 +35,7 @@ add-w c = search rules
 
 returns-2 : tie.Need-returns-then-i-eq0
 returns-2 c =
-    let s = c.before.before.before.before in
+    let s = c in
     own_first _ _ _ _ s.requires.1 s.requires.3 c.if-i-eq0.true c.if-cells-size.false
 
 sub-eights : tie.Need-overflow_sub-i
@@ -46,12 +46,12 @@ eights-requires c κs = search rules
 
 mul-w-3 : tie.Need-overflow_mul-w-then-i-lt22
 mul-w-3 c =
-    let s = c.before.before.before.before.before.before in
+    let s = c in
     record { fits = digit-fits _ _ s.requires.3 c.eights.ensures.1 }
 
 returns-3 : tie.Need-returns-then-i-lt22
 returns-3 c =
-    let s = c.before.before.before.before.before.before in
+    let s = c in
     own-high _ _ _ _ s.requires.1 s.requires.3 _ c.eights.ensures.1 c.if-i-lt22.true c.if-cells-size.false c.eights.ensures.0
 
 sub-eights-2 : tie.Need-overflow_sub-i-then-i-lt43
@@ -62,12 +62,12 @@ eights-requires-2 c κs = search rules
 
 mul-w-4 : tie.Need-overflow_mul-w-then-i-lt43
 mul-w-4 c =
-    let s = c.before.before.before.before.before.before.before in
+    let s = c in
     record { fits = digit-fits _ _ s.requires.3 c.eights-then-i-lt43.ensures.1 }
 
 returns-4 : tie.Need-returns-then-i-lt43
 returns-4 c =
-    let s = c.before.before.before.before.before.before.before in
+    let s = c in
     own-mid _ _ _ _ s.requires.1 s.requires.3 _ c.eights-then-i-lt43.ensures.1 c.if-i-lt43.true c.if-cells-size.false c.eights-then-i-lt43.ensures.0
 
 sub-eights-3 : tie.Need-overflow_sub-i-2
@@ -78,12 +78,12 @@ eights-requires-3 c κs = search rules
 
 mul-w-5 : tie.Need-overflow_mul-w-2
 mul-w-5 c =
-    let s = c.before.before.before.before.before.before.before in
+    let s = c in
     record { fits = digit-fits _ _ s.requires.3 c.eights-2.ensures.1 }
 
 returns-5 : tie.Need-returns
 returns-5 c =
-    let s = c.before.before.before.before.before.before.before in
+    let s = c in
     own-low _ _ _ _ s.requires.1 s.requires.3 _ c.eights-2.ensures.1 c.if-cells-size.false c.eights-2.ensures.0
 
 pub own_of_spec : {M : Type 1} → statement M

@@ -17,7 +17,7 @@ loop-holds : tie.Need-loop-i-init invariant-loop decreases-loop
 loop-holds c = place-start _ _
 
 place-in-requires : tie.Need-place_in-requires invariant-loop decreases-loop
-place-in-requires c κs = let s = c.before.before in (s.requires.0, omega (arith, s.requires.1))
+place-in-requires c κs = let s = c in (s.requires.0, omega (arith, s.requires.1))
 
 mul-out : tie.Need-offset_bounds-out-i invariant-loop decreases-loop
 mul-out c = search rules

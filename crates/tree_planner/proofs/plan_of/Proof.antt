@@ -6,7 +6,7 @@ use Rattle.tree_planner.proofs.plan_of.Tie as tie
 
 returns : tie.Need-returns-then-w-ge-FAR
 returns c =
-    let s = c.before.before in
+    let s = c in
     plan-none _ s.requires.0 _ c.if-w-ge-FAR.true
 
 places-of-requires : tie.Need-places_of-places-requires
@@ -14,7 +14,7 @@ places-of-requires c κs = search rules
 
 returns-2 : tie.Need-returns
 returns-2 c =
-    let s = c.before.before.before.before in
+    let s = c in
     plan-some _ s.requires.0 _ _ c.if-w-ge-FAR.false c.places_of-places.ensures
 
 pub plan_of_spec : {M : Type 1} → statement M

@@ -18,12 +18,12 @@ decreases-loop sizes moved table u v places count room₀ columns a₀ room a = 
 
 loop-holds : tie.Need-loop-a-init invariant-loop decreases-loop
 loop-holds c =
-    let s = c.before.before.before.before in
+    let s = c in
     (omega arith, rows_start _ _ _ _ s.requires.0.2.sound)
 
 reach-row-requires : tie.Need-reach_row-requires invariant-loop decreases-loop
 reach-row-requires c κs =
-    let s = c.before.before.before.before.before.before.before in
+    let s = c in
     let i = c.loop-a.invariant in (
       (s.requires.0.0, s.requires.0.1, record { sound = i.1.sound; long = i.1.long ∙ s.requires.0.2.long }),
       (s.requires.1.0, s.requires.1.1, s.requires.1.3, omega (arith, s.requires.1), s.requires.1.4),
@@ -31,7 +31,7 @@ reach-row-requires c κs =
 
 add_a : tie.Need-overflow_add-a invariant-loop decreases-loop
 add_a c =
-    let s = c.before.before.before.before.before.before.before.before.before.before in
+    let s = c in
     omega (arith, s.requires.1)
 
 loop-less : tie.Need-loop-a-smaller invariant-loop decreases-loop
@@ -39,7 +39,7 @@ loop-less c = omega arith
 
 loop-again : tie.Need-loop-a-preserved invariant-loop decreases-loop
 loop-again c =
-    let s = c.before.before.before.before.before.before.before.before.before.before in
+    let s = c in
     let i = c.loop-a.invariant in (
       omega arith,
       rows_next _ _ _ _ _ _ _ _ _ s.requires.1.4.few (omega arith) (λ x l. refl) i.1 c.reach_row.ensures,

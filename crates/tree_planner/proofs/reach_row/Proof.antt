@@ -23,7 +23,7 @@ far-requires c κs = search rules
 
 start-row-requires : tie.Need-start_row-requires invariant-loop decreases-loop
 start-row-requires c κs =
-    let s = c.before.before.before.before.before.before in (
+    let s = c in (
       s.requires.0.2.sound,
       omega (arith, s.requires.1),
       omega (arith, s.requires.1, s.requires.0.2.long),
@@ -36,74 +36,74 @@ loop-holds c = (omega arith, lowest_start _ _ _ _ _ _ c.far.ensures.0 c.start_ro
 
 mul-taken : tie.Need-overflow_mul-taken invariant-loop decreases-loop
 mul-taken c =
-    let s = c.before.before.before.before.before.before.before.before.before.before.before in
+    let s = c in
     omega (arith, s.requires.1)
 
 add-taken : tie.Need-overflow_add-taken invariant-loop decreases-loop
 add-taken c =
-    let s = c.before.before.before.before.before.before.before.before.before.before.before in
+    let s = c in
     omega (arith, s.requires.1)
 
 mul-taken-2 : tie.Need-overflow_mul-taken-in-loop-b invariant-loop decreases-loop
 mul-taken-2 c =
-    let s = c.before.before.before.before.before.before.before.before.before.before.before in
+    let s = c in
     omega (arith, s.requires.1)
 
 add-taken-2 : tie.Need-overflow_add-taken-in-loop-b invariant-loop decreases-loop
 add-taken-2 c =
-    let s = c.before.before.before.before.before.before.before.before.before.before.before in
+    let s = c in
     omega (arith, s.requires.1)
 
 mul-taken-3 : tie.Need-offset_bounds-moved-v invariant-loop decreases-loop
 mul-taken-3 c =
-    let s = c.before.before.before.before.before.before.before.before.before.before.before in
+    let s = c in
     omega (arith, s.requires.1)
 
 shared-slice-read-taken : tie.Need-bounds-moved-v invariant-loop decreases-loop
 shared-slice-read-taken c =
-    let s = c.before.before.before.before.before.before.before.before.before.before.before.before in
+    let s = c in
     omega (arith, s.requires.1, s.requires.0.0.moved_in)
 
 mul-link-weight : tie.Need-overflow_mul-u invariant-loop decreases-loop
 mul-link-weight c =
-    let s = c.before.before.before.before.before.before.before.before.before.before.before.before in
+    let s = c in
     omega (arith, s.requires.1)
 
 add-link-weight : tie.Need-overflow_add-u invariant-loop decreases-loop
 add-link-weight c =
-    let s = c.before.before.before.before.before.before.before.before.before.before.before.before in
+    let s = c in
     omega (arith, s.requires.1)
 
 mul-link-weight-2 : tie.Need-overflow_mul-v invariant-loop decreases-loop
 mul-link-weight-2 c =
-    let s = c.before.before.before.before.before.before.before.before.before.before.before.before in
+    let s = c in
     omega (arith, s.requires.1)
 
 add-link-weight-2 : tie.Need-overflow_add-v invariant-loop decreases-loop
 add-link-weight-2 c =
-    let s = c.before.before.before.before.before.before.before.before.before.before.before.before in
+    let s = c in
     omega (arith, s.requires.1)
 
 link-weight-requires : tie.Need-link_weight-extra-requires invariant-loop decreases-loop
 link-weight-requires c κs =
-    let s = c.before.before.before.before.before.before.before.before.before.before.before.before in (
+    let s = c in (
       (s.requires.0.0.sizes-in, s.requires.0.0.low),
       (omega (arith, s.requires.0.0.ones ((s.args.v * 8 + s.args.a) * 8 + c.loop-b.b)), omega (arith, s.requires.1), omega (arith, s.requires.1)),
     )
 
 mul-lower-row : tie.Need-overflow_mul-v-in-loop-b invariant-loop decreases-loop
 mul-lower-row c =
-    let s = c.before.before.before.before.before.before.before.before.before.before.before.before.before.before in
+    let s = c in
     omega (arith, s.requires.1)
 
 add-lower-row : tie.Need-overflow_add-v-in-loop-b invariant-loop decreases-loop
 add-lower-row c =
-    let s = c.before.before.before.before.before.before.before.before.before.before.before.before.before.before in
+    let s = c in
     omega (arith, s.requires.1)
 
 lower-row-requires : tie.Need-lower_row-requires invariant-loop decreases-loop
 lower-row-requires c κs =
-    let s = c.before.before.before.before.before.before.before.before.before.before.before.before.before.before in
+    let s = c in
     let i = c.loop-b.invariant in (
       (record { sound = i.1.sound; long = i.1.long ∙ c.start_row.ensures.long ∙ s.requires.0.2.long }, s.requires.0.1, c.link_weight-extra.ensures.1),
       (
@@ -116,7 +116,7 @@ lower-row-requires c κs =
 
 add-b : tie.Need-overflow_add-b invariant-loop decreases-loop
 add-b c =
-    let s = c.before.before.before.before.before.before.before.before.before.before.before.before.before.before.before.before.before in
+    let s = c in
     omega (arith, s.requires.1)
 
 loop-less : tie.Need-loop-b-smaller invariant-loop decreases-loop

@@ -8,12 +8,12 @@ use Rattle.tree_planner.proofs.ready.Tie as tie
 
 returns : tie.Need-returns-then-merged
 returns c =
-    let s = c.before.before.before in
+    let s = c in
     rows_same _ _ _ _ _ s.requires.0.2.sound (λ a x l m. sym (held-table _ _ _ _ _ _ _ c.if-merged.true))
 
 start-station-requires : tie.Need-start_station-requires
 start-station-requires c κs =
-    let s = c.before.before.before.before in
+    let s = c in
     (s.requires.0, s.requires.1)
 
 same_length : tie.Need-shape_of-table

@@ -8,12 +8,12 @@ less-requires c κs = (c.requires.1, c.requires.0.words)
 
 returns : tie.Need-returns-then-less
 returns c =
-    let s = c.before.before in
+    let s = c in
     smaller-second _ _ _ s.requires.0 s.requires.1 c.less.ensures c.if-less.true
 
 returns-2 : tie.Need-returns-else-less
 returns-2 c =
-    let s = c.before.before in
+    let s = c in
     (smaller-first _ _ _ c.less.ensures c.if-less.false, s.requires.0)
 
 pub smaller_spec : {M : Type 1} → statement M

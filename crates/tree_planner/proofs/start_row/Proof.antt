@@ -26,7 +26,7 @@ add-store c = search rules
 
 store-requires : tie.Need-store-requires invariant-loop decreases-loop
 store-requires c κs =
-    let s = c.before.before.before.before in
+    let s = c in
     let i = c.loop-k.invariant in
     (omega (arith, s.requires.1), omega (arith, i.1.long, s.requires.2))
 
@@ -38,7 +38,7 @@ loop-less c = omega arith
 
 loop-again : tie.Need-loop-k-preserved invariant-loop decreases-loop
 loop-again c =
-    let s = c.before.before.before.before.before.before.before in
+    let s = c in
     let i = c.loop-k.invariant in
     (omega arith, row_next _ _ _ _ _ _ _ (omega (arith, s.requires.4)) i.1 refl (entry-stored _ _ _ _ _ i.1.sound s.requires.3 refl c.store.ensures))
 

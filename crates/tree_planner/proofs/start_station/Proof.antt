@@ -17,7 +17,7 @@ decreases-loop sizes cells i count table₀ columns b₀ table b = count - b
 
 loop-holds : tie.Need-loop-b-init invariant-loop decreases-loop
 loop-holds c =
-    let s = c.before.before in
+    let s = c in
     (omega arith, rows_start _ _ _ _ s.requires.0.2.sound)
 
 mul-start-row : tie.Need-overflow_mul-i invariant-loop decreases-loop
@@ -28,23 +28,23 @@ add-start-row c = search rules
 
 own-of-requires : tie.Need-own_of-requires invariant-loop decreases-loop
 own-of-requires c κs =
-    let s = c.before.before.before.before.before in
+    let s = c in
     (s.requires.0.0, s.requires.0.1, s.requires.1.0, omega (arith, s.requires.1))
 
 start-row-requires : tie.Need-start_row-requires invariant-loop decreases-loop
 start-row-requires c κs =
-    let s = c.before.before.before.before.before.before in
+    let s = c in
     let i = c.loop-b.invariant in (
       i.1.sound,
       omega (arith, s.requires.1),
       omega (arith, i.1.long, s.requires.1, s.requires.0.2.long),
-      c.own_of_lem.ensures.1,
+      c.own_of.ensures.1,
       s.requires.1.2,
     )
 
 add-b : tie.Need-overflow_add-b invariant-loop decreases-loop
 add-b c =
-    let s = c.before.before.before.before.before.before.before.before.before in
+    let s = c in
     omega (arith, s.requires.1)
 
 loop-less : tie.Need-loop-b-smaller invariant-loop decreases-loop
@@ -52,9 +52,9 @@ loop-less c = omega arith
 
 loop-again : tie.Need-loop-b-preserved invariant-loop decreases-loop
 loop-again c =
-    let s = c.before.before.before.before.before.before.before.before.before in
+    let s = c in
     let i = c.loop-b.invariant in
-    (omega arith, rows_next _ _ _ _ _ _ _ _ _ s.requires.1.2 refl (λ x l. c.own_of_lem.ensures.0) i.1 c.start_row.ensures)
+    (omega arith, rows_next _ _ _ _ _ _ _ _ _ s.requires.1.2 refl (λ x l. c.own_of.ensures.0) i.1 c.start_row.ensures)
 
 same_length : tie.Need-shape_of-table invariant-loop decreases-loop
 same_length c = c.loop-b.invariant.1.long

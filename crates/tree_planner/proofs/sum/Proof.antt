@@ -24,12 +24,12 @@ add-t6 c = search rules
 
 add-t8 : tie.Need-overflow_add-result-2
 add-t8 c =
-    let s = c.before.before.before.before.before.before.before.before in
+    let s = c in
     record { fits = sum_fits _ _ _ s.requires.0.top s.requires.1.top (add-high-2 c.before.before).fits }
 
 returns : tie.Need-returns
 returns c =
-    let s = c.before.before.before.before.before.before.before.before in
+    let s = c in
     (sum-value _ _ s.requires.0 s.requires.1, sum-worded _ _ s.requires.0 s.requires.1)
 
 pub sum_spec : {M : Type 1} → statement M

@@ -18,10 +18,7 @@ same-length-2 c = search rules
 
 returns : tie.Need-returns-then-m-gt-MAX_TERMS
 returns c =
-    let i = c.before in
-    let m = i.before.before.before in
-    let s = m.before.before.before in
-    rw c.no_sum.ensures (add-not s.args.b s.args.a s.args.x.now s.args.y.now _ s.args.p _ _ s.requires.0 s.requires.1 s.requires.2 m.blend-m.ensures i.if-m-gt-MAX_TERMS.true)
+    rw c.no_sum.ensures (add-not c.args.b c.args.a c.args.x.now c.args.y.now _ c.args.p _ _ c.requires.0 c.requires.1 c.requires.2 c.blend-m.ensures c.if-m-gt-MAX_TERMS.true)
 
 kept-sum-requires : tie.Need-kept_sum-requires
 kept-sum-requires c κs = search rules
@@ -34,9 +31,7 @@ same-length-4 c = search rules
 
 returns-2 : tie.Need-returns
 returns-2 c =
-    let m = c.before.before.before.before.before.before.before in
-    let s = m.before.before.before in
-    add-moved s.args.b s.args.a s.args.x.now s.args.y.now _ s.args.p _ _ s.requires.0 s.requires.1 s.requires.2 m.blend-m.ensures _ _ c.kept_sum.ensures
+    add-moved c.args.b c.args.a c.args.x.now c.args.y.now _ c.args.p _ _ c.requires.0 c.requires.1 c.requires.2 c.blend-m.ensures _ _ c.kept_sum.ensures
 
 pub added_sum_spec : {M : Type 1} → statement M
 added_sum_spec =

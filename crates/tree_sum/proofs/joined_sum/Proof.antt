@@ -17,29 +17,21 @@ same-length-2 c = search rules
 
 returns : tie.Need-returns-then-a
 returns c =
-    let m = c.before.before in
-    let j = m.before.before.before in
-    let i = j.before in
-    let s = i.before in
-    sum_added s.args.b s.args.a s.args.x.now s.args.p _ _ _ _ i.if-b.true j.if-a.true m.added_sum.ensures
+    sum_added c.args.b c.args.a c.args.x.now c.args.p _ _ _ _ c.if-b.true c.if-a.true c.added_sum.ensures
 
 no-sum-requires : tie.Need-no_sum-requires
 no-sum-requires c κs = search rules
 
 returns-2 : tie.Need-returns-then-b
 returns-2 c =
-    let i = c.before in
-    let s = i.before.before in
-    rw c.no_sum.ensures (sum_over s.args.b s.args.a s.args.x.now s.args.p s.args.y.now s.requires.2.place (λ h. i.if-a.false))
+    rw c.no_sum.ensures (sum_over c.args.b c.args.a c.args.x.now c.args.p c.args.y.now c.requires.2.place (λ h. c.if-a.false))
 
 no-sum-requires-2 : tie.Need-no_sum-requires-2
 no-sum-requires-2 c κs = search rules
 
 returns-3 : tie.Need-returns
 returns-3 c =
-    let i = c.before in
-    let s = i.before in
-    rw c.no_sum-2.ensures (sum_over s.args.b s.args.a s.args.x.now s.args.p s.args.y.now s.requires.2.place (λ h. clash (sym i.if-b.false ∙ h)))
+    rw c.no_sum-2.ensures (sum_over c.args.b c.args.a c.args.x.now c.args.p c.args.y.now c.requires.2.place (λ h. clash (sym c.if-b.false ∙ h)))
 
 pub joined_sum_spec : {M : Type 1} → statement M
 joined_sum_spec =

@@ -14,12 +14,10 @@ put-leaf-requires c κs = search rules
 
 kept-sum-requires : tie.Need-kept_sum-requires
 kept-sum-requires c κs =
-    let m = c.before.before.before in
-    let s = m.before.before in
-    let W = m.put_leaf-m.ensures in
-    let high : m.put_leaf-m.result.at ≤ length m.put_leaf-m.new.1.1.1.0 = omega (arith, W.high, W.same) in
-    let few : m.put_leaf-m.result.n ≤ max_terms = omega (arith, W.counted, leaf-count (bounds s.args.lower.now s.args.upper.now) s.args.leaf) in
-    (high, s.requires.1.place, few)
+    let W = c.put_leaf-m.ensures in
+    let high : c.put_leaf-m.result.at ≤ length c.put_leaf-m.new.y = omega (arith, W.high, W.same) in
+    let few : c.put_leaf-m.result.n ≤ max_terms = omega (arith, W.counted, leaf-count (bounds c.args.lower.now c.args.upper.now) c.args.leaf) in
+    (high, c.requires.1.place, few)
 
 same_length : tie.Need-shape_of-x
 same_length c = search rules
@@ -29,9 +27,7 @@ same-length-2 c = search rules
 
 returns : tie.Need-returns
 returns c =
-    let m = c.before.before.before.before.before in
-    let s = m.before.before in
-    leaf-folds (bounds s.args.lower.now s.args.upper.now) s.args.leaf s.args.at _ _ _ _ s.args.p _ _ _ m.put_leaf-m.ensures c.kept_sum.ensures
+    leaf-folds (bounds c.args.lower.now c.args.upper.now) c.args.leaf c.args.at _ _ _ _ c.args.p _ _ _ c.put_leaf-m.ensures c.kept_sum.ensures
 
 pub leaf_sum_spec : {M : Type 1} → statement M
 leaf_sum_spec =

@@ -19,9 +19,7 @@ same-length-2 c = search rules
 
 returns : tie.Need-returns
 returns c =
-    let m = c.before.before.before.before.before in
-    let s = m.before.before.before in
-    scale-moved s.args.z s.args.a s.args.x.now _ _ _ s.args.p _ _ _ s.requires.0 (rw (to_z-of_z s.ranges.z) at m.scale-m.ensures) c.kept_sum.ensures
+    scale-moved c.args.z c.args.a c.args.x.now _ _ _ c.args.p _ _ _ c.requires.0 (rw (to_z-of_z c.ranges.z) at c.scale-m.ensures) c.kept_sum.ensures
 
 pub scaled_sum_spec : {M : Type 1} → statement M
 scaled_sum_spec =

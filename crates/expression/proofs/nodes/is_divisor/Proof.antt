@@ -1,8 +1,5 @@
 -- `expression::nodes::is_divisor` meets its contract. Assumes nothing.
-use Prim.Native.Nat.{◌-◌}
 use mir.Facts.{to_z-of_z}
-use Rattle.expression.specs.declared.Node.TheVariants as N
-use Rattle.expression.specs.declared.Reckoned.TheVariants as R
 use Rattle.expression.proofs.Tests.{divisor-low, divisor-high}
 use Rattle.expression.proofs.nodes.is_divisor.Statement.{statement}
 use Rattle.expression.proofs.nodes.is_divisor.Tie as tie

@@ -1,9 +1,6 @@
 -- `expression::nodes::is_small` meets its contract. Assumes nothing.
 use borrow.Author.Rules.{rules}
-use Prim.Native.Nat.{◌-◌}
 use mir.Facts.{to_z-of_z}
-use Rattle.expression.specs.declared.Node.TheVariants as N
-use Rattle.expression.specs.declared.Reckoned.TheVariants as R
 use Rattle.expression.proofs.Tests.{small_low, small-high}
 use Rattle.expression.proofs.nodes.is_small.Statement.{statement}
 use Rattle.expression.proofs.nodes.is_small.Tie as tie

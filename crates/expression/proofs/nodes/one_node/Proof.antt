@@ -2,10 +2,7 @@
 use borrow.Author.Rules.{rules}
 use borrow.Author.Tests.{ne_eqb}
 use mathlib.Core.Path.{sym, ◌∙◌}
-use Prim.Native.Nat.{◌-◌}
 use mir.Facts.{to_z-of_z}
-use Rattle.expression.specs.declared.Node.TheVariants as N
-use Rattle.expression.specs.declared.Reckoned.TheVariants as R
 use Rattle.expression.proofs.nodes.one_node.Statement.{statement}
 use Rattle.expression.proofs.nodes.one_node.Tie as tie
 

@@ -2,12 +2,10 @@
 use borrow.Author.Rules.{rules}
 use borrow.Author.Tests.{lt-ltb, le-ltb}
 use mathlib.Core.Path.{◌≡◌}
-use Prim.Native.Nat.{◌-◌, ◌*◌}
+use Prim.Native.Nat.{◌*◌}
 use lib.IntN.{nat_abs}
 use mir.Facts.{to_z-of_z}
 use Rattle.expression.specs.Node.{max_variables, place_node, variable_node}
-use Rattle.expression.specs.declared.Node.TheVariants as N
-use Rattle.expression.specs.declared.Reckoned.TheVariants as R
 use Rattle.expression.proofs.Tests.{abs-fits, pos-non_neg, variable-neg, variable-pos}
 use Rattle.expression.proofs.nodes.variable_node.Statement.{statement}
 use Rattle.expression.proofs.nodes.variable_node.Tie as tie

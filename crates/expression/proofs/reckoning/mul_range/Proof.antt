@@ -1,12 +1,9 @@
 -- `expression::reckoning::mul_range` meets its contract. Assumes nothing.
 use borrow.Author.Rules.{rules}
 use mathlib.Core.Path.{ap₂, ◌∙◌}
-use Prim.Native.Nat.{◌-◌, ◌*◌}
-use lib.IntN.{ℤ, ◌*ℤ◌}
+use lib.IntN.{◌*ℤ◌}
 use mir.Facts.{to_z-of_z}
 use Rattle.expression.specs.Reckon.{both_of}
-use Rattle.expression.specs.declared.Node.TheVariants as N
-use Rattle.expression.specs.declared.Reckoned.TheVariants as R
 use Rattle.expression.proofs.Ends.{both-exact, mul-neg, mul-pos}
 use Rattle.expression.proofs.reckoning.mul_range.Statement.{statement}
 use Rattle.expression.proofs.reckoning.mul_range.Tie as tie

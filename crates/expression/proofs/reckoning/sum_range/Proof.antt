@@ -1,13 +1,10 @@
 -- `expression::reckoning::sum_range` meets its contract. Assumes nothing.
 use borrow.Author.Rules.{rules}
 use mathlib.Core.Path.{ap₂, ◌∙◌}
-use Prim.Native.Nat.{◌+◌, ◌-◌}
-use lib.IntN.{ℤ, ◌+ℤ◌}
+use lib.IntN.{◌+ℤ◌}
 use mir.Facts.{to_z-of_z}
 use Rattle.expression.specs.Expression.{add_range}
 use Rattle.expression.specs.Reckon.{both_of}
-use Rattle.expression.specs.declared.Node.TheVariants as N
-use Rattle.expression.specs.declared.Reckoned.TheVariants as R
 use Rattle.expression.proofs.Ends.{both-exact}
 use Rattle.expression.proofs.reckoning.sum_range.Statement.{statement}
 use Rattle.expression.proofs.reckoning.sum_range.Tie as tie

@@ -5,8 +5,6 @@ use Prim.Native.Nat.{suc, ◌+◌, ◌-◌, ◌<◌, ◌≤◌}
 use native.Mathlib.Omega.{arith}
 use mir.Facts.{to_z-of_z}
 use Rattle.expression.specs.Node.{nodes_at}
-use Rattle.expression.specs.declared.Node.TheVariants as N
-use Rattle.expression.specs.declared.Reckoned.TheVariants as R
 use Rattle.expression.proofs.Depth.{depth_walk, depth-next, depth-last, depth-done, eqb-suc, then-pos}
 use Rattle.expression.proofs.trees.is_tree.Statement.{statement}
 use Rattle.expression.proofs.trees.is_tree.Tie as tie

@@ -1,9 +1,6 @@
 -- `expression::trees::step_depth` meets its contract. Assumes nothing.
 use borrow.Author.Rules.{rules}
-use Prim.Native.Nat.{◌-◌}
 use native.Mathlib.Omega.{arith}
-use Rattle.expression.specs.declared.Node.TheVariants as N
-use Rattle.expression.specs.declared.Reckoned.TheVariants as R
 use Rattle.expression.proofs.Depth.{one-depth, sum-none, sum-depth}
 use Rattle.expression.proofs.trees.step_depth.Statement.{statement}
 use Rattle.expression.proofs.trees.step_depth.Tie as tie

@@ -18,59 +18,59 @@ use Rattle.operation_builder.proofs.axes.add_axes.Lts as lts
 use Rattle.operation_builder.proofs.axes.add_axis.Reads as add-axis-reads
 use Rattle.operation_builder.proofs.axes.axis_at.Reads as axis-at-reads
 
-abbrev invariant-loop : tie.invariant-loop
+abbrev invariant-loop : tie.invariant-loop-i
 invariant-loop out change sizes a b c x₀ i₀ x i = (i ≤ length sizes) × (x ≡ steps (add_axes out change sizes a b c) i x₀)
 
-abbrev decreases-loop : tie.decreases-loop
+abbrev decreases-loop : tie.decreases-loop-i
 decreases-loop out change sizes a b c x₀ i₀ x i = length sizes - i
 
-loop-holds : tie.Need-loop-init invariant-loop decreases-loop
+loop-holds : tie.Need-loop-i-init invariant-loop decreases-loop
 loop-holds c =
     let s = c.before.before.before.before in
     (omega arith, steps-none (add_axes s.args.out s.args.change s.args.sizes.now s.args.a.now s.args.b.now s.args.c.now) s.args.d)
 
-axis-at-requires : tie.Need-axis-at-requires invariant-loop decreases-loop
+axis-at-requires : tie.Need-axis_at-requires invariant-loop decreases-loop
 axis-at-requires c κs = search rules
 
-add-axis-requires : tie.Need-add-axis-requires invariant-loop decreases-loop
+add-axis-requires : tie.Need-add_axis-x-requires invariant-loop decreases-loop
 add-axis-requires c κs =
     let t = c.before in
     let l = t.before in
     let s = l.before.before.before.before.before in
-    let g = steps-grow (add_axes s.args.out s.args.change s.args.sizes.now s.args.a.now s.args.b.now s.args.c.now) (λ k x. axis-grows s.args.out (axis_at s.args.change s.args.sizes.now s.args.a.now s.args.b.now s.args.c.now k) k x) l.loop.i s.args.d in
-    let e = l.loop.invariant.1 in
+    let g = steps-grow (add_axes s.args.out s.args.change s.args.sizes.now s.args.a.now s.args.b.now s.args.c.now) (λ k x. axis-grows s.args.out (axis_at s.args.change s.args.sizes.now s.args.a.now s.args.b.now s.args.c.now k) k x) l.loop-i.i s.args.d in
+    let e = l.loop-i.invariant.1 in
     let few = s.requires.all.few in
     record {
-      nodes = omega (arith, ap (λ (u : Draft). u.at) e, g.nodes, s.requires.nodes, few, t.loop-test.true);
+      nodes = omega (arith, ap (λ (u : Draft). u.at) e, g.nodes, s.requires.nodes, few, t.loop-i-test.true);
       under = ap (λ (u : Draft). u.under) e ∙ g.under s.requires.under;
-      variable = omega (arith, few, t.loop-test.true);
-      dims = omega (arith, ap (λ (u : Draft). u.map.dims) e, g.dims, s.requires.dims, few, t.loop-test.true);
-      results = omega (arith, ap (λ (u : Draft). u.map.results) e, g.results, s.requires.results, few, t.loop-test.true);
-      ready = subst Ready (sym c.axis-at.ensures) (s.requires.all.ready l.loop.i t.loop-test.true);
+      variable = omega (arith, few, t.loop-i-test.true);
+      dims = omega (arith, ap (λ (u : Draft). u.map.dims) e, g.dims, s.requires.dims, few, t.loop-i-test.true);
+      results = omega (arith, ap (λ (u : Draft). u.map.results) e, g.results, s.requires.results, few, t.loop-i-test.true);
+      ready = subst Ready (sym c.axis_at.ensures) (s.requires.all.ready l.loop-i.i t.loop-i-test.true);
     }
 
-add-i : tie.Need-overflow-add-i invariant-loop decreases-loop
+add-i : tie.Need-overflow_add-i invariant-loop decreases-loop
 add-i c = search rules
 
-loop-less : tie.Need-loop-smaller invariant-loop decreases-loop
+loop-less : tie.Need-loop-i-smaller invariant-loop decreases-loop
 loop-less c = search rules
 
-loop-again : tie.Need-loop-preserved invariant-loop decreases-loop
+loop-again : tie.Need-loop-i-preserved invariant-loop decreases-loop
 loop-again c =
     let p = c.before in
     let t = p.before in
     let l = t.before in
     let s = l.before.before.before.before.before in
-    (omega (arith, t.loop-test.true), steps_next (add_axes s.args.out s.args.change s.args.sizes.now s.args.a.now s.args.b.now s.args.c.now) l.loop.i s.args.d l.loop.x c.add-axis.result l.loop.invariant.1 (c.add-axis.ensures ∙ ap (λ (a : Axis). add_axis s.args.out a l.loop.i l.loop.x) p.axis-at.ensures))
+    (omega (arith, t.loop-i-test.true), steps_next (add_axes s.args.out s.args.change s.args.sizes.now s.args.a.now s.args.b.now s.args.c.now) l.loop-i.i s.args.d l.loop-i.x c.add_axis-x.result l.loop-i.invariant.1 (c.add_axis-x.ensures ∙ ap (λ (a : Axis). add_axis s.args.out a l.loop-i.i l.loop-i.x) p.axis_at.ensures))
 
 returns : tie.Need-returns invariant-loop decreases-loop
 returns c =
     let l = c.before in
     let s = l.before.before.before.before.before in
-    steps-end (add_axes s.args.out s.args.change s.args.sizes.now s.args.a.now s.args.b.now s.args.c.now) l.loop.i (length s.args.sizes.now) s.args.d l.loop.x l.loop.invariant.1 l.loop.invariant.0 c.loop-test.false
+    steps-end (add_axes s.args.out s.args.change s.args.sizes.now s.args.a.now s.args.b.now s.args.c.now) l.loop-i.i (length s.args.sizes.now) s.args.d l.loop-i.x l.loop-i.invariant.1 l.loop-i.invariant.0 c.loop-i-test.false
 
-pub add-axes-spec : {M : Type 1} → statement M
-add-axes-spec =
+pub add_axes_spec : {M : Type 1} → statement M
+add_axes_spec =
     tie.close
     (tie.spec
     invariant-loop

@@ -16,29 +16,29 @@ use Rattle.operation_builder.proofs.axes.push_axis.Reads as push-axis-reads
 use Rattle.map_builder.proofs.inner.add_bound.Reads as add-bound-reads
 use Rattle.map_builder.proofs.inner.end_result.Reads as end-result-reads
 
-low-of-requires : tie.Need-low-of-requires
+low-of-requires : tie.Need-low_of-low-requires
 low-of-requires c κs = search rules
 
-high-of-requires : tie.Need-high-of-requires
-high-of-requires c κs = c.before.requires.ready
+high-of-requires : tie.Need-high_of-high-requires
+high-of-requires c κs = c.requires.ready
 
-add-bound-requires : tie.Need-add-bound-requires
+add-bound-requires : tie.Need-add_bound-x-requires
 add-bound-requires c κs =
     let l = c.before in
     let s = l.before in
-    record { dims = s.requires.dims; small_low = low_small s.args.out s.args.axis l.low_of.result s.requires.ready l.low_of.ensures; small-high = c.high-of.ensures.1 }
+    record { dims = s.requires.dims; small_low = low_small s.args.out s.args.axis l.low_of-low.result s.requires.ready l.low_of-low.ensures; small-high = c.high_of-high.ensures.1 }
 
-push-axis-requires : tie.Need-push-axis-requires
+push-axis-requires : tie.Need-push_axis-y-requires
 push-axis-requires c κs =
     let s = c.before.before.before in
-    let e = c.add-bound.ensures in
+    let e = c.add_bound-x.ensures in
     (record { nodes = omega (arith, ap (λ (u : Draft). u.at) e, s.requires.nodes); under = omega (arith, ap (λ (u : Draft). u.under) e, s.requires.under); variable = s.requires.variable }, s.requires.ready)
 
-end-result-requires : tie.Need-end-result-requires
+end-result-requires : tie.Need-end_result-requires
 end-result-requires c κs =
     let b = c.before in
     let s = b.before.before.before in
-    omega (arith, ap (λ (u : Draft). u.map.results) c.push-axis.ensures, pushed-results s.args.out s.args.axis s.args.k b.add-bound.result, ap (λ (u : Draft). u.map.results) b.add-bound.ensures, s.requires.results)
+    omega (arith, ap (λ (u : Draft). u.map.results) c.push_axis-y.ensures, pushed-results s.args.out s.args.axis s.args.k b.add_bound-x.result, ap (λ (u : Draft). u.map.results) b.add_bound-x.ensures, s.requires.results)
 
 returns : tie.Need-returns
 returns c =
@@ -47,11 +47,11 @@ returns c =
     let h = b.before in
     let l = h.before in
     let s = l.before in
-    c.end-result.ensures
-    ∙ ap end_result (p.push-axis.ensures ∙ ap (push_axis s.args.out s.args.axis s.args.k) (b.add-bound.ensures ∙ ap₂ (add_dimension s.args.d) l.low_of.ensures h.high-of.ensures.0))
+    c.end_result.ensures
+    ∙ ap end_result (p.push_axis-y.ensures ∙ ap (push_axis s.args.out s.args.axis s.args.k) (b.add_bound-x.ensures ∙ ap₂ (add_dimension s.args.d) l.low_of-low.ensures h.high_of-high.ensures.0))
 
-pub add-axis-spec : {M : Type 1} → statement M
-add-axis-spec =
+pub add_axis_spec : {M : Type 1} → statement M
+add_axis_spec =
     tie.close
     (tie.spec
     low-of-requires

@@ -20,7 +20,7 @@ use Rattle.map_builder.proofs.inner.empty.Reads as empty-reads
 empty-requires : tie.Need-empty-requires
 empty-requires c κs = search rules
 
-add-axes-requires : tie.Need-add-axes-requires
+add-axes-requires : tie.Need-add_axes-x-requires
 add-axes-requires c κs =
     let s = c.before.before.before.before.before in
     let e = c.empty.ensures in
@@ -32,12 +32,12 @@ add-axes-requires c κs =
       all = s.requires;
     }
 
-add-tests-requires : tie.Need-add-tests-requires
+add-tests-requires : tie.Need-add_tests-y-requires
 add-tests-requires c κs =
     let m = c.before in
     let s = m.before.before.before.before.before in
     let n = length s.args.sizes.now in
-    let w = c.add-axes.ensures ∙ ap (steps (add_axes s.args.out s.args.change s.args.sizes.now s.args.a.now s.args.b.now s.args.c.now) n) m.empty.ensures in
+    let w = c.add_axes-x.ensures ∙ ap (steps (add_axes s.args.out s.args.change s.args.sizes.now s.args.a.now s.args.b.now s.args.c.now) n) m.empty.ensures in
     let g = steps-grow (add_axes s.args.out s.args.change s.args.sizes.now s.args.a.now s.args.b.now s.args.c.now) (λ k x. axis-grows s.args.out (axis_at s.args.change s.args.sizes.now s.args.a.now s.args.b.now s.args.c.now k) k x) n empty_draft in
     let o = axes-leave s.args.out (axis_at s.args.change s.args.sizes.now s.args.a.now s.args.b.now s.args.c.now) n empty_draft in
     record {
@@ -54,8 +54,8 @@ returns c =
     let m = a.before in
     let s = m.before.before.before.before.before in
     let n = length s.args.sizes.now in
-    ap (λ (u : Draft). u.map) (v.add-tests.ensures ∙ ap (steps (add_tests s.args.out s.args.change s.args.sizes.now s.args.a.now s.args.b.now s.args.c.now) n) (a.add-axes.ensures ∙ ap (steps (add_axes s.args.out s.args.change s.args.sizes.now s.args.a.now s.args.b.now s.args.c.now) n) m.empty.ensures))
+    ap (λ (u : Draft). u.map) (v.add_tests-y.ensures ∙ ap (steps (add_tests s.args.out s.args.change s.args.sizes.now s.args.a.now s.args.b.now s.args.c.now) n) (a.add_axes-x.ensures ∙ ap (steps (add_axes s.args.out s.args.change s.args.sizes.now s.args.a.now s.args.b.now s.args.c.now) n) m.empty.ensures))
     ∙ axes-made s.args.out (axis_at s.args.change s.args.sizes.now s.args.a.now s.args.b.now s.args.c.now) n s.requires.few
 
-pub axes-map-spec : {M : Type 1} → statement M
-axes-map-spec = tie.close (tie.spec empty-requires add-axes-requires add-tests-requires returns)
+pub axes_map_spec : {M : Type 1} → statement M
+axes_map_spec = tie.close (tie.spec empty-requires add-axes-requires add-tests-requires returns)

@@ -10,69 +10,69 @@ use Rattle.operation_builder.proofs.axes.axis_at.Lts as lts
 use Rattle.operation_builder.proofs.axes.entry.Reads as entry-reads
 use Rattle.shape.proofs.place_of.Reads as place-of-reads
 
-enum_told : tie.Need-enum-told
+enum_told : tie.Need-enum_told-1
 enum_told c = search rules
 
 entry-requires : tie.Need-entry-requires
 entry-requires c κs = search rules
 
-returns : tie.Need-returns
-returns c = rw (c.before.enum_told.given.1, c.entry.ensures)
+returns : tie.Need-returns-in-Kept
+returns c = rw (c.in-Kept.is, c.entry.ensures)
 
-enum-told-2 : tie.Need-enum-told-2
+enum-told-2 : tie.Need-enum_told-in-Reversed
 enum-told-2 c = search rules
 
-place-of-requires : tie.Need-place-of-requires
+place-of-requires : tie.Need-place_of-requires
 place-of-requires c κs = search rules
 
-entry-requires-2 : tie.Need-entry-requires-2
+entry-requires-2 : tie.Need-entry-requires-then-place_of-a
 entry-requires-2 c κs = search rules
 
-returns-2 : tie.Need-returns-2
+returns-2 : tie.Need-returns-then-place_of-a
 returns-2 c =
     let p = c.before.before in
-    rw (p.before.enum-told2.given.1, lt-ltb (place _ _) (length _) (rw p.place_of.ensures at c.before.if1.true), c.entry2.ensures)
+    rw (p.in-Reversed.is, lt-ltb (place _ _) (length _) (rw p.place_of.ensures at c.if-place_of-a.true), c.entry-then-place_of-a.ensures)
 
-entry-requires-3 : tie.Need-entry-requires-3
+entry-requires-3 : tie.Need-entry-requires-in-Reversed
 entry-requires-3 c κs = search rules
 
-returns-3 : tie.Need-returns-3
+returns-3 : tie.Need-returns-in-Reversed
 returns-3 c =
     let p = c.before.before in
-    rw (p.before.enum-told2.given.1, le-ltb (place _ _) (length _) (rw p.place_of.ensures at c.before.if1.false), c.entry3.ensures)
+    rw (p.in-Reversed.is, le-ltb (place _ _) (length _) (rw p.place_of.ensures at c.if-place_of-a.false), c.entry-in-Reversed.ensures)
 
-enum-known-change : tie.Need-enum-known-change
+enum-known-change : tie.Need-enum_known-change
 enum-known-change c = search rules
 
-entry-requires-4 : tie.Need-entry-requires-4
+entry-requires-4 : tie.Need-entry-requires-then-k-dimension
 entry-requires-4 c κs = search rules
 
-returns-4 : tie.Need-returns-4
-returns-4 c = rw (c.before.before.before.change.given.1, eq-eqb _ _ c.before.if2.true, c.entry4.ensures)
+returns-4 : tie.Need-returns-then-k-dimension
+returns-4 c = rw (c.in-Joined.is, eq-eqb _ _ c.if-k-dimension.true, c.entry-then-k-dimension.ensures)
 
-entry-requires-5 : tie.Need-entry-requires-5
+entry-requires-5 : tie.Need-entry-requires-in-Joined
 entry-requires-5 c κs = search rules
 
-returns-5 : tie.Need-returns-5
-returns-5 c = rw (c.before.before.before.change.given.1, ne_eqb _ _ c.before.if2.false, c.entry5.ensures)
+returns-5 : tie.Need-returns-in-Joined
+returns-5 c = rw (c.in-Joined.is, ne_eqb _ _ c.if-k-dimension.false, c.entry-in-Joined.ensures)
 
-enum-told-3 : tie.Need-enum-told-3
+enum-told-3 : tie.Need-enum_told-in-Sliced
 enum-told-3 c = search rules
 
-entry-requires-6 : tie.Need-entry-requires-6
+entry-requires-6 : tie.Need-entry-requires-in-Sliced
 entry-requires-6 c κs = search rules
 
-entry-requires-7 : tie.Need-entry-requires-7
+entry-requires-7 : tie.Need-entry-requires-in-Sliced-2
 entry-requires-7 c κs = search rules
 
-entry-requires-8 : tie.Need-entry-requires-8
+entry-requires-8 : tie.Need-entry-requires-in-Sliced-3
 entry-requires-8 c κs = search rules
 
-returns-6 : tie.Need-returns-6
-returns-6 c = rw (c.before.before.before.enum-told3.given.1, c.before.before.entry6.ensures, c.before.entry7.ensures, c.entry8.ensures)
+returns-6 : tie.Need-returns-in-Sliced
+returns-6 c = rw (c.in-Sliced.is, c.entry-in-Sliced.ensures, c.entry-in-Sliced-2.ensures, c.entry-in-Sliced-3.ensures)
 
-pub axis-at-spec : {M : Type 1} → statement M
-axis-at-spec =
+pub axis_at_spec : {M : Type 1} → statement M
+axis_at_spec =
     tie.close
     (tie.spec
     enum_told

@@ -15,17 +15,17 @@ past-zero [] k h = refl
 past-zero (x ∷ l) zero h = absurd (omega arith)
 past-zero (x ∷ l) (suc k) h = past-zero l k (omega arith)
 
-mul-result : tie.Need-overflow-mul-result
+mul-result : tie.Need-offset_bounds-list-k
 mul-result c = search rules
 
-shared-slice-read-result : tie.Need-shared-slice-read-result
+shared-slice-read-result : tie.Need-bounds-list-k
 shared-slice-read-result c = search rules
 
-returns : tie.Need-returns
+returns : tie.Need-returns-then-k-list
 returns c = search rules
 
-returns-2 : tie.Need-returns-2
-returns-2 c = sym (past-zero c.before.args.list.now c.before.args.k c.if1.false)
+returns-2 : tie.Need-returns
+returns-2 c = sym (past-zero c.args.list.now c.args.k c.if-k-list.false)
 
 pub entry_spec : {M : Type 1} → statement M
 entry_spec = tie.close (tie.spec mul-result shared-slice-read-result returns returns-2)

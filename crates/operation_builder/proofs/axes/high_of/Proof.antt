@@ -9,113 +9,113 @@ use Rattle.operation_builder.proofs.axes.high_of.Tie as tie
 use Rattle.operation_builder.proofs.axes.high_of.Reads as reads
 use Rattle.operation_builder.proofs.axes.high_of.Lts as lts
 
-enum-known-axis : tie.Need-enum-known-axis
+enum-known-axis : tie.Need-enum_known-axis
 enum-known-axis c = search rules
 
-sub-result : tie.Need-overflow-sub-result
+sub-result : tie.Need-overflow_sub-result
 sub-result c =
-    let h = rw c.before.axis.given.1 at c.before.before.before.requires in
+    let h = rw c.in-Keep.is at c.requires in
     h.0
 
-returns : tie.Need-returns
+returns : tie.Need-returns-in-Keep
 returns c =
-    let s = c.before.before.before in
-    let e = c.before.axis.given.1 in
+    let s = c.before in
+    let e = c.in-Keep.is in
     let h = rw e at s.requires in
     (rw e (whole-high s.args.out _), omega (arith, h.1))
 
-enum-known-axis-2 : tie.Need-enum-known-axis-2
+enum-known-axis-2 : tie.Need-enum_known-axis-in-Flip-1
 enum-known-axis-2 c = search rules
 
-sub-result-2 : tie.Need-overflow-sub-result-2
+sub-result-2 : tie.Need-overflow_sub-result-in-Flip
 sub-result-2 c =
-    let h = rw c.before.axis2.given.1 at c.before.before.before.requires in
+    let h = rw c.in-Flip.is at c.requires in
     h.0
 
-returns-2 : tie.Need-returns-2
+returns-2 : tie.Need-returns-in-Flip
 returns-2 c =
-    let s = c.before.before.before in
-    let e = c.before.axis2.given.1 in
+    let s = c.before in
+    let e = c.in-Flip.is in
     let h = rw e at s.requires in
     (rw e (turned-high s.args.out _), omega (arith, h.1))
 
-enum-known-axis-3 : tie.Need-enum-known-axis-3
+enum-known-axis-3 : tie.Need-enum_known-axis-in-Cut-1
 enum-known-axis-3 c = search rules
 
-sub-last : tie.Need-overflow-sub-last
+sub-last : tie.Need-overflow_sub-last
 sub-last c =
-    let h = rw c.before.axis3.given.1 at c.before.before.before.requires in
+    let h = rw c.in-Cut.is at c.requires in
     omega (arith, h.0)
 
-sub-last-2 : tie.Need-overflow-sub-last-2
+sub-last-2 : tie.Need-overflow_sub-last-in-Cut
 sub-last-2 c =
-    let h = rw c.before.axis3.given.1 at c.before.before.before.requires in
+    let h = rw c.in-Cut.is at c.requires in
     omega (arith, h.0)
 
-div-last : tie.Need-nonzero-div-last
+div-last : tie.Need-nonzero_div-last
 div-last c =
-    let h = rw c.before.axis3.given.1 at c.before.before.before.requires in
+    let h = rw c.in-Cut.is at c.requires in
     h.1.1.0
 
-returns-3 : tie.Need-returns-3
+returns-3 : tie.Need-returns-then-out
 returns-3 c =
-    let k = c.before.before in
-    let h = rw k.axis3.given.1 at k.before.before.requires in
-    (rw (k.axis3.given.1, c.if1.true) (ap pos (omega arith)), omega (arith, last-few k.axis3.given.0.0 k.axis3.given.0.1.0 k.axis3.given.0.1.1.0, h.1.0))
+    let k = c.before in
+    let h = rw k.in-Cut.is at k.requires in
+    (rw (k.in-Cut.is, c.if-out.true) (ap pos (omega arith)), omega (arith, last-few k.in-Cut.start k.in-Cut.limit k.in-Cut.stride, h.1.0))
 
-mul-result : tie.Need-overflow-mul-result
+mul-result : tie.Need-overflow_mul-result
 mul-result c =
-    let k = c.before.before in
-    let h = rw k.axis3.given.1 at k.before.before.requires in
-    search (rules, last-below k.axis3.given.0.0 k.axis3.given.0.1.0 k.axis3.given.0.1.1.0 h.0, h.1.0)
+    let k = c.before in
+    let h = rw k.in-Cut.is at k.requires in
+    search (rules, last-below k.in-Cut.start k.in-Cut.limit k.in-Cut.stride h.0, h.1.0)
 
-add-result : tie.Need-overflow-add-result
+add-result : tie.Need-overflow_add-result
 add-result c =
-    let k = c.before.before in
-    let h = rw k.axis3.given.1 at k.before.before.requires in
-    search (rules, last-below k.axis3.given.0.0 k.axis3.given.0.1.0 k.axis3.given.0.1.1.0 h.0, h.1.0)
+    let k = c.before in
+    let h = rw k.in-Cut.is at k.requires in
+    search (rules, last-below k.in-Cut.start k.in-Cut.limit k.in-Cut.stride h.0, h.1.0)
 
-returns-4 : tie.Need-returns-4
+returns-4 : tie.Need-returns-in-Cut
 returns-4 c =
-    let k = c.before.before in
-    let h = rw k.axis3.given.1 at k.before.before.requires in
-    (rw (k.axis3.given.1, c.if1.false) (ap pos (last-is k.axis3.given.0.0 k.axis3.given.0.1.0 k.axis3.given.0.1.1.0)), omega (arith, last-below k.axis3.given.0.0 k.axis3.given.0.1.0 k.axis3.given.0.1.1.0 h.0, h.1.0))
+    let k = c.before in
+    let h = rw k.in-Cut.is at k.requires in
+    (rw (k.in-Cut.is, c.if-out.false) (ap pos (last-is k.in-Cut.start k.in-Cut.limit k.in-Cut.stride)), omega (arith, last-below k.in-Cut.start k.in-Cut.limit k.in-Cut.stride h.0, h.1.0))
 
-enum-known-axis-4 : tie.Need-enum-known-axis-4
+enum-known-axis-4 : tie.Need-enum_known-axis-in-Shift-1
 enum-known-axis-4 c = search rules
 
-sub-result-3 : tie.Need-overflow-sub-result-3
+sub-result-3 : tie.Need-overflow_sub-result-then-out-2
 sub-result-3 c =
-    let k = c.before.before in
-    let h = rw k.axis4.given.1 at k.before.before.requires in
+    let k = c.before in
+    let h = rw k.in-Shift.is at k.requires in
     h.1.0
 
-add-result-2 : tie.Need-overflow-add-result-2
+add-result-2 : tie.Need-overflow_add-result-then-out-2
 add-result-2 c =
-    let k = c.before.before in
-    let h = rw k.axis4.given.1 at k.before.before.requires in
+    let k = c.before in
+    let h = rw k.in-Shift.is at k.requires in
     search (rules, h.0, h.1.0, h.1.1)
 
-returns-5 : tie.Need-returns-5
+returns-5 : tie.Need-returns-then-out-2
 returns-5 c =
-    let k = c.before.before in
-    let h = rw k.axis4.given.1 at k.before.before.requires in
-    (rw (k.axis4.given.1, c.if2.true), omega (arith, h.0, h.1.1))
+    let k = c.before in
+    let h = rw k.in-Shift.is at k.requires in
+    (rw (k.in-Shift.is, c.if-out-2.true), omega (arith, h.0, h.1.1))
 
-sub-result-4 : tie.Need-overflow-sub-result-4
+sub-result-4 : tie.Need-overflow_sub-result-in-Shift
 sub-result-4 c =
-    let k = c.before.before in
-    let h = rw k.axis4.given.1 at k.before.before.requires in
+    let k = c.before in
+    let h = rw k.in-Shift.is at k.requires in
     h.1.0
 
-returns-6 : tie.Need-returns-6
+returns-6 : tie.Need-returns-in-Shift
 returns-6 c =
-    let k = c.before.before in
-    let h = rw k.axis4.given.1 at k.before.before.requires in
-    (rw (k.axis4.given.1, c.if2.false), omega (arith, h.1.1))
+    let k = c.before in
+    let h = rw k.in-Shift.is at k.requires in
+    (rw (k.in-Shift.is, c.if-out-2.false), omega (arith, h.1.1))
 
-pub high-of-spec : {M : Type 1} → statement M
-high-of-spec =
+pub high_of_spec : {M : Type 1} → statement M
+high_of_spec =
     tie.close
     (tie.spec
     enum-known-axis

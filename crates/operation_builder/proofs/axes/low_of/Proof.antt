@@ -6,38 +6,38 @@ use Rattle.operation_builder.proofs.axes.low_of.Tie as tie
 use Rattle.operation_builder.proofs.axes.low_of.Reads as reads
 use Rattle.operation_builder.proofs.axes.low_of.Lts as lts
 
-enum_told : tie.Need-enum-told
+enum_told : tie.Need-enum_told-1
 enum_told c = search rules
 
-returns : tie.Need-returns
-returns c = rw c.enum_told.given.1 (whole-low c.before.before.args.out _)
+returns : tie.Need-returns-in-Keep
+returns c = rw c.in-Keep.is (whole-low c.args.out _)
 
-enum-told-2 : tie.Need-enum-told-2
+enum-told-2 : tie.Need-enum_told-in-Flip
 enum-told-2 c = search rules
 
-returns-2 : tie.Need-returns-2
-returns-2 c = rw c.enum-told2.given.1 (turned-low c.before.before.args.out _)
+returns-2 : tie.Need-returns-in-Flip
+returns-2 c = rw c.in-Flip.is (turned-low c.args.out _)
 
-enum-known-axis : tie.Need-enum-known-axis
+enum-known-axis : tie.Need-enum_known-axis
 enum-known-axis c = search rules
 
-returns-3 : tie.Need-returns-3
-returns-3 c = rw (c.before.before.axis.given.1, c.if1.true)
+returns-3 : tie.Need-returns-then-out
+returns-3 c = rw (c.in-Cut.is, c.if-out.true)
 
-returns-4 : tie.Need-returns-4
-returns-4 c = rw (c.before.before.axis.given.1, c.if1.false)
+returns-4 : tie.Need-returns-in-Cut
+returns-4 c = rw (c.in-Cut.is, c.if-out.false)
 
-enum-known-axis-2 : tie.Need-enum-known-axis-2
+enum-known-axis-2 : tie.Need-enum_known-axis-in-Shift-1
 enum-known-axis-2 c = search rules
 
-returns-5 : tie.Need-returns-5
-returns-5 c = rw (c.before.before.axis2.given.1, c.if2.true)
+returns-5 : tie.Need-returns-then-out-2
+returns-5 c = rw (c.in-Shift.is, c.if-out-2.true)
 
-returns-6 : tie.Need-returns-6
-returns-6 c = rw (c.before.before.axis2.given.1, c.if2.false)
+returns-6 : tie.Need-returns-in-Shift
+returns-6 c = rw (c.in-Shift.is, c.if-out-2.false)
 
-pub low-of-spec : {M : Type 1} → statement M
-low-of-spec =
+pub low_of_spec : {M : Type 1} → statement M
+low_of_spec =
     tie.close
     (tie.spec
     enum_told

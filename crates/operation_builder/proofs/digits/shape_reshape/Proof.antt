@@ -15,28 +15,28 @@ within-from s = limits s.args.from (search rules) s.requires.0
 within-to : (s : tie.Start) → Limits s.args.to
 within-to s = limits s.args.to (search rules) s.requires.1
 
-array-share-prefix-x : tie.Need-array-share-prefix-x
+array-share-prefix-x : tie.Need-slice_bounds-x-end
 array-share-prefix-x c = (within-from c.before.before).room
 
-slice-aggregate-reshape-map : tie.Need-slice-aggregate-reshape-map
+slice-aggregate-reshape-map : tie.Need-slice_bounds-reshape_map-end
 slice-aggregate-reshape-map c = sym (within-from c.before.before.before).long
 
-array-share-prefix-y : tie.Need-array-share-prefix-y
+array-share-prefix-y : tie.Need-slice_bounds-y-end
 array-share-prefix-y c = (within-to c.before.before.before).room
 
-slice-aggregate-reshape-map-2 : tie.Need-slice-aggregate-reshape-map-2
+slice-aggregate-reshape-map-2 : tie.Need-slice_bounds-reshape_map-end-2
 slice-aggregate-reshape-map-2 c = sym (within-to c.before.before.before.before).long
 
-reshape-map-requires : tie.Need-reshape-map-requires
+reshape-map-requires : tie.Need-reshape_map-requires
 reshape-map-requires c κs =
     let s = c.before.before.before.before in
     reshape-ready s.args.from s.args.to s.requires
 
 returns : tie.Need-returns
-returns c = c.reshape-map.ensures
+returns c = c.reshape_map.ensures
 
-pub shape-reshape-spec : {M : Type 1} → statement M
-shape-reshape-spec =
+pub shape_reshape_spec : {M : Type 1} → statement M
+shape_reshape_spec =
     tie.close
     (tie.spec
     array-share-prefix-x

@@ -7,36 +7,36 @@ use Rattle.operation_builder.proofs.selections.keep.Reads as reads
 use Rattle.operation_builder.proofs.selections.keep.Lts as lts
 use Rattle.shape.proofs.place_of.Reads as place-of-reads
 
-place-of-requires : tie.Need-place-of-requires
+place-of-requires : tie.Need-place_of-requires
 place-of-requires c κs = search rules
 
-returns : tie.Need-returns
+returns : tie.Need-returns-then-place_of-list
 returns c =
     let p = c.before in
     let s = p.before.before in
-    keep-listed s.args.list.now s.args.j s.args.size s.args.kept _ p.place_of.ensures c.if1.true
+    keep-listed s.args.list.now s.args.j s.args.size s.args.kept _ p.place_of.ensures c.if-place_of-list.true
 
-mul-dims : tie.Need-overflow-mul-dims
+mul-dims : tie.Need-offset_bounds-dims-k
 mul-dims c = search rules
 
-array-write-dims : tie.Need-array-write-dims
+array-write-dims : tie.Need-bounds-dims-k
 array-write-dims c = search rules
 
-mul-sizes : tie.Need-overflow-mul-sizes
+mul-sizes : tie.Need-offset_bounds-sizes-k
 mul-sizes c = search rules
 
-array-write-sizes : tie.Need-array-write-sizes
+array-write-sizes : tie.Need-bounds-sizes-k
 array-write-sizes c = search rules
 
-add-t8 : tie.Need-overflow-add-t8
+add-t8 : tie.Need-overflow_add-result
 add-t8 c = search rules
 
-returns-2 : tie.Need-returns-2
+returns-2 : tie.Need-returns
 returns-2 c =
     let t = c.before.before in
     let p = t.before in
     let s = p.before.before in
-    keep-other s.args.list.now s.args.j s.args.size s.args.kept _ p.place_of.ensures t.if1.false
+    keep-other s.args.list.now s.args.j s.args.size s.args.kept _ p.place_of.ensures t.if-place_of-list.false
 
 pub keep_spec : {M : Type 1} → statement M
 keep_spec =

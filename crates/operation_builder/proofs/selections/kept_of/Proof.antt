@@ -12,52 +12,52 @@ use Rattle.operation_builder.proofs.selections.kept_of.Reads as reads
 use Rattle.operation_builder.proofs.selections.kept_of.Lts as lts
 use Rattle.operation_builder.proofs.selections.keep.Reads as keep-reads
 
-abbrev invariant-loop : tie.invariant-loop
+abbrev invariant-loop : tie.invariant-loop-j
 invariant-loop sizes list out₀ j₀ out j = (j ≤ length sizes) × KeptAs list sizes j out
 
-abbrev decreases-loop : tie.decreases-loop
+abbrev decreases-loop : tie.decreases-loop-j
 decreases-loop sizes list out₀ j₀ out j = length sizes - j
 
-loop-holds : tie.Need-loop-init invariant-loop decreases-loop
+loop-holds : tie.Need-loop-j-init invariant-loop decreases-loop
 loop-holds c =
     let s = c.before.before in
     (omega arith, none-kept s.args.list.now s.args.sizes.now)
 
-mul-keep : tie.Need-overflow-mul-keep invariant-loop decreases-loop
+mul-keep : tie.Need-offset_bounds-sizes-j invariant-loop decreases-loop
 mul-keep c = search rules
 
-shared-slice-read-keep : tie.Need-shared-slice-read-keep invariant-loop decreases-loop
+shared-slice-read-keep : tie.Need-bounds-sizes-j invariant-loop decreases-loop
 shared-slice-read-keep c = search rules
 
-keep-requires : tie.Need-keep-requires invariant-loop decreases-loop
+keep-requires : tie.Need-keep-out-requires invariant-loop decreases-loop
 keep-requires c κs =
     let t = c.before in
     let l = t.before in
     let s = l.before.before.before in
-    omega (arith, few-kept s.args.list.now s.args.sizes.now l.loop.j l.loop.out l.loop.invariant.1, t.loop-test.true, s.requires)
+    omega (arith, few-kept s.args.list.now s.args.sizes.now l.loop-j.j l.loop-j.out l.loop-j.invariant.1, t.loop-j-test.true, s.requires)
 
-add-j : tie.Need-overflow-add-j invariant-loop decreases-loop
+add-j : tie.Need-overflow_add-j invariant-loop decreases-loop
 add-j c = search rules
 
-loop-less : tie.Need-loop-smaller invariant-loop decreases-loop
+loop-less : tie.Need-loop-j-smaller invariant-loop decreases-loop
 loop-less c = search rules
 
-loop-again : tie.Need-loop-preserved invariant-loop decreases-loop
+loop-again : tie.Need-loop-j-preserved invariant-loop decreases-loop
 loop-again c =
     let t = c.before.before in
     let l = t.before in
     let s = l.before.before.before in
-    (omega (arith, t.loop-test.true), kept_next s.args.list.now s.args.sizes.now l.loop.j l.loop.out c.keep.result c.keep.ensures l.loop.invariant.1)
+    (omega (arith, t.loop-j-test.true), kept_next s.args.list.now s.args.sizes.now l.loop-j.j l.loop-j.out c.keep-out.result c.keep-out.ensures l.loop-j.invariant.1)
 
 returns : tie.Need-returns invariant-loop decreases-loop
 returns c =
     let l = c.before in
     let s = l.before.before.before in
-    let q : l.loop.j ≡ length s.args.sizes.now = omega (arith, l.loop.invariant.0, c.loop-test.false) in
-    subst (λ (n : ℕ). KeptAs s.args.list.now s.args.sizes.now n l.loop.out) q l.loop.invariant.1
+    let q : l.loop-j.j ≡ length s.args.sizes.now = omega (arith, l.loop-j.invariant.0, c.loop-j-test.false) in
+    subst (λ (n : ℕ). KeptAs s.args.list.now s.args.sizes.now n l.loop-j.out) q l.loop-j.invariant.1
 
-pub kept-of-spec : {M : Type 1} → statement M
-kept-of-spec =
+pub kept_of_spec : {M : Type 1} → statement M
+kept_of_spec =
     tie.close
     (tie.spec
     invariant-loop

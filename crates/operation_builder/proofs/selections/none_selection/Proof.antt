@@ -19,36 +19,36 @@ use Rattle.operation_builder.proofs.selections.selection_map.Reads as selection-
 within : (s : tie.Start) → Limits s.args.shape
 within s = limits s.args.shape (search rules) s.requires
 
-array-share-prefix-sizes : tie.Need-array-share-prefix-sizes
+array-share-prefix-sizes : tie.Need-slice_bounds-sizes-end
 array-share-prefix-sizes c = (within c.before.before).room
 
-slice-aggregate-kept-of : tie.Need-slice-aggregate-kept-of
+slice-aggregate-kept-of : tie.Need-slice_bounds-kept_of-end
 slice-aggregate-kept-of c = sym (within c.before.before.before).long
 
-kept-of-requires : tie.Need-kept-of-requires
+kept-of-requires : tie.Need-kept_of-kept-requires
 kept-of-requires c κs =
     let w = within c.before.before.before in
     omega (arith, w.long, w.rank)
 
-front : (k : tie.After-kept-of) → Front k.before.before.before.before.args.list.now (sizes_of k.before.before.before.before.args.shape) k.kept_of.result
+front : (k : tie.After-kept_of-kept) → Front k.args.list.now (sizes_of k.args.shape) k.kept_of-kept.result
 front k =
     let s = k.before.before.before.before in
     let w = within s in
-    kept-front s.args.list.now (sizes_of s.args.shape) k.kept_of.result (omega (arith, w.long, w.rank)) k.kept_of.ensures
+    kept-front s.args.list.now (sizes_of s.args.shape) k.kept_of-kept.result (omega (arith, w.long, w.rank)) k.kept_of-kept.ensures
 
-array-share-prefix-left : tie.Need-array-share-prefix-left
+array-share-prefix-left : tie.Need-slice_bounds-left-end
 array-share-prefix-left c = (front c.before.before).room-sizes
 
-slice-aggregate-selection-map : tie.Need-slice-aggregate-selection-map
+slice-aggregate-selection-map : tie.Need-slice_bounds-selection_map-end
 slice-aggregate-selection-map c = (front c.before.before.before).long-sizes
 
-array-share-prefix-none : tie.Need-array-share-prefix-none
+array-share-prefix-none : tie.Need-slice_bounds-none-end
 array-share-prefix-none c = search rules
 
-slice-aggregate-selection-map-2 : tie.Need-slice-aggregate-selection-map-2
+slice-aggregate-selection-map-2 : tie.Need-slice_bounds-selection_map-end-2
 slice-aggregate-selection-map-2 c = search rules
 
-selection-map-requires : tie.Need-selection-map-requires
+selection-map-requires : tie.Need-selection_map-requires
 selection-map-requires c κs =
     let k = c.before.before.before.before in
     let s = k.before.before.before.before in
@@ -58,10 +58,10 @@ returns : tie.Need-returns
 returns c =
     let k = c.before.before.before.before.before in
     let s = k.before.before.before.before in
-    c.selection-map.ensures ∙ ap (λ (m : List ℕ). encoded (selection s.args.up [] m)) (front k).sizes
+    c.selection_map.ensures ∙ ap (λ (m : List ℕ). encoded (selection s.args.up [] m)) (front k).sizes
 
-pub none-selection-spec : {M : Type 1} → statement M
-none-selection-spec =
+pub none_selection_spec : {M : Type 1} → statement M
+none_selection_spec =
     tie.close
     (tie.spec
     array-share-prefix-sizes

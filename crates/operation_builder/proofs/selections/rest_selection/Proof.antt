@@ -19,30 +19,30 @@ use Rattle.operation_builder.proofs.selections.shape_selection.Reads as shape-se
 within : (s : tie.Start) → Limits s.args.shape
 within s = limits s.args.shape (search rules) s.requires
 
-array-share-prefix-sizes : tie.Need-array-share-prefix-sizes
+array-share-prefix-sizes : tie.Need-slice_bounds-sizes-end
 array-share-prefix-sizes c = (within c.before.before).room
 
-slice-aggregate-kept-of : tie.Need-slice-aggregate-kept-of
+slice-aggregate-kept-of : tie.Need-slice_bounds-kept_of-end
 slice-aggregate-kept-of c = sym (within c.before.before.before).long
 
-kept-of-requires : tie.Need-kept-of-requires
+kept-of-requires : tie.Need-kept_of-kept-requires
 kept-of-requires c κs =
     let w = within c.before.before.before in
     omega (arith, w.long, w.rank)
 
-front : (k : tie.After-kept-of) → Front k.before.before.before.before.args.list.now (sizes_of k.before.before.before.before.args.shape) k.kept_of.result
+front : (k : tie.After-kept_of-kept) → Front k.args.list.now (sizes_of k.args.shape) k.kept_of-kept.result
 front k =
     let s = k.before.before.before.before in
     let w = within s in
-    kept-front s.args.list.now (sizes_of s.args.shape) k.kept_of.result (omega (arith, w.long, w.rank)) k.kept_of.ensures
+    kept-front s.args.list.now (sizes_of s.args.shape) k.kept_of-kept.result (omega (arith, w.long, w.rank)) k.kept_of-kept.ensures
 
-array-share-prefix-dims : tie.Need-array-share-prefix-dims
+array-share-prefix-dims : tie.Need-slice_bounds-dims-end
 array-share-prefix-dims c = (front c.before).room-dims
 
-slice-aggregate-shape-selection : tie.Need-slice-aggregate-shape-selection
+slice-aggregate-shape-selection : tie.Need-slice_bounds-shape_selection-end
 slice-aggregate-shape-selection c = (front c.before.before).long-dims
 
-shape-selection-requires : tie.Need-shape-selection-requires
+shape-selection-requires : tie.Need-shape_selection-requires
 shape-selection-requires c κs =
     let k = c.before.before in
     let s = k.before.before.before.before in
@@ -52,10 +52,10 @@ returns : tie.Need-returns
 returns c =
     let k = c.before.before.before in
     let s = k.before.before.before.before in
-    c.shape-selection.ensures ∙ ap (λ (l : List ℕ). encoded (selection s.args.up l (sizes_of s.args.shape))) (front k).dims
+    c.shape_selection.ensures ∙ ap (λ (l : List ℕ). encoded (selection s.args.up l (sizes_of s.args.shape))) (front k).dims
 
-pub rest-selection-spec : {M : Type 1} → statement M
-rest-selection-spec =
+pub rest_selection_spec : {M : Type 1} → statement M
+rest_selection_spec =
     tie.close
     (tie.spec
     array-share-prefix-sizes

@@ -20,17 +20,17 @@ use Rattle.map_builder.proofs.inner.empty.Reads as empty-reads
 empty-requires : tie.Need-empty-requires
 empty-requires c κs = search rules
 
-add-whole-requires : tie.Need-add-whole-requires
+add-whole-requires : tie.Need-add_whole-d-requires
 add-whole-requires c κs =
     let s = c.before.before.before in
     record { dims = omega (arith, ap (λ (u : Draft). u.map.dims) c.empty.ensures, s.requires.few); sized = s.requires.sized }
 
-add-variables-requires : tie.Need-add-variables-requires
+add-variables-requires : tie.Need-add_variables-e-requires
 add-variables-requires c κs =
     let e = c.before in
     let s = e.before.before.before in
     let ns = s.args.sizes.now in
-    let w = c.add-whole.ensures ∙ ap (steps (add_size ns) (length ns)) e.empty.ensures in
+    let w = c.add_whole-d.ensures ∙ ap (steps (add_size ns) (length ns)) e.empty.ensures in
     let k = bounds-leave (λ (k : ℕ). up_to (get_or ns k 0)) (length ns) empty_draft in
     let f = short ns s.args.list.now s.requires in
     record {
@@ -48,9 +48,9 @@ returns c =
     let s = e.before.before.before in
     let ns = s.args.sizes.now in
     let l = s.args.list.now in
-    ap (λ (u : Draft). u.map) (v.add-variables.ensures ∙ ap (steps (add_variable l) (length l)) (w.add-whole.ensures ∙ ap (steps (add_size ns) (length ns)) e.empty.ensures))
+    ap (λ (u : Draft). u.map) (v.add_variables-e.ensures ∙ ap (steps (add_variable l) (length l)) (w.add_whole-d.ensures ∙ ap (steps (add_size ns) (length ns)) e.empty.ensures))
     ∙ select-made ns l s.requires
 
-pub select-map-spec : {M : Type 1} → statement M
-select-map-spec =
+pub select_map_spec : {M : Type 1} → statement M
+select_map_spec =
     tie.close (tie.spec empty-requires add-whole-requires add-variables-requires returns)

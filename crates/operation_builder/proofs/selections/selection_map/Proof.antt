@@ -11,23 +11,23 @@ use Rattle.operation_builder.proofs.selections.selection_map.Lts as lts
 use Rattle.operation_builder.proofs.selections.select_map.Reads as select-map-reads
 use Rattle.operation_builder.proofs.selections.spread_map.Reads as spread-map-reads
 
-spread-map-requires : tie.Need-spread-map-requires
+spread-map-requires : tie.Need-spread_map-requires
 spread-map-requires c κs = search rules
 
-returns : tie.Need-returns
+returns : tie.Need-returns-then-up
 returns c =
     let t = c.before in
     let s = t.before.before.before in
-    c.spread-map.ensures ∙ ap (λ (b : Bool). encoded (selection b s.args.list.now s.args.sizes.now)) (sym t.if1.true)
+    c.spread_map.ensures ∙ ap (λ (b : Bool). encoded (selection b s.args.list.now s.args.sizes.now)) (sym t.if-up.true)
 
-select-map-requires : tie.Need-select-map-requires
+select-map-requires : tie.Need-select_map-requires
 select-map-requires c κs = search rules
 
-returns-2 : tie.Need-returns-2
+returns-2 : tie.Need-returns
 returns-2 c =
     let t = c.before in
     let s = t.before.before.before in
-    c.select-map.ensures ∙ ap (λ (b : Bool). encoded (selection b s.args.list.now s.args.sizes.now)) (sym t.if1.false)
+    c.select_map.ensures ∙ ap (λ (b : Bool). encoded (selection b s.args.list.now s.args.sizes.now)) (sym t.if-up.false)
 
-pub selection-map-spec : {M : Type 1} → statement M
-selection-map-spec = tie.close (tie.spec spread-map-requires returns select-map-requires returns-2)
+pub selection_map_spec : {M : Type 1} → statement M
+selection_map_spec = tie.close (tie.spec spread-map-requires returns select-map-requires returns-2)

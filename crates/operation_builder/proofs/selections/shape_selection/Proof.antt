@@ -12,22 +12,22 @@ use Rattle.operation_builder.proofs.selections.selection_map.Reads as selection-
 within : (s : tie.Start) → Limits s.args.shape
 within s = limits s.args.shape (search rules) s.requires.good
 
-array-share-prefix-sizes : tie.Need-array-share-prefix-sizes
+array-share-prefix-sizes : tie.Need-slice_bounds-sizes-end
 array-share-prefix-sizes c = (within c.before.before).room
 
-slice-aggregate-selection-map : tie.Need-slice-aggregate-selection-map
+slice-aggregate-selection-map : tie.Need-slice_bounds-selection_map-end
 slice-aggregate-selection-map c = sym (within c.before.before.before).long
 
-selection-map-requires : tie.Need-selection-map-requires
+selection-map-requires : tie.Need-selection_map-requires
 selection-map-requires c κs =
     let s = c.before.before.before in
     chosen-ready s.args.shape s.args.list.now s.requires
 
 returns : tie.Need-returns
-returns c = c.selection-map.ensures
+returns c = c.selection_map.ensures
 
-pub shape-selection-spec : {M : Type 1} → statement M
-shape-selection-spec =
+pub shape_selection_spec : {M : Type 1} → statement M
+shape_selection_spec =
     tie.close
     (tie.spec
     array-share-prefix-sizes

@@ -21,19 +21,19 @@ use Rattle.map_builder.proofs.inner.empty.Reads as empty-reads
 empty-requires : tie.Need-empty-requires
 empty-requires c κs = search rules
 
-add-selected-requires : tie.Need-add-selected-requires
+add-selected-requires : tie.Need-add_selected-d-requires
 add-selected-requires c κs =
     let s = c.before.before.before in
     let f = short s.args.sizes.now s.args.list.now s.requires in
     record { dims = omega (arith, ap (λ (u : Draft). u.map.dims) c.empty.ensures, f); sized = s.requires.sized; inside = s.requires.choice.inside }
 
-add-coordinates-requires : tie.Need-add-coordinates-requires
+add-coordinates-requires : tie.Need-add_coordinates-e-requires
 add-coordinates-requires c κs =
     let e = c.before in
     let s = e.before.before.before in
     let ns = s.args.sizes.now in
     let l = s.args.list.now in
-    let w = c.add-selected.ensures ∙ ap (steps (add_selected ns l) (length l)) e.empty.ensures in
+    let w = c.add_selected-d.ensures ∙ ap (steps (add_selected ns l) (length l)) e.empty.ensures in
     let g = bounds-leave (λ (k : ℕ). up_to (get_or ns (get_or l k 0) 0)) (length l) empty_draft in
     record {
       nodes = ap (λ (u : Draft). u.at) w ∙ g.0;
@@ -51,9 +51,9 @@ returns c =
     let s = e.before.before.before in
     let ns = s.args.sizes.now in
     let l = s.args.list.now in
-    ap (λ (u : Draft). u.map) (v.add-coordinates.ensures ∙ ap (steps (add_coordinate ns l) (length ns)) (w.add-selected.ensures ∙ ap (steps (add_selected ns l) (length l)) e.empty.ensures))
+    ap (λ (u : Draft). u.map) (v.add_coordinates-e.ensures ∙ ap (steps (add_coordinate ns l) (length ns)) (w.add_selected-d.ensures ∙ ap (steps (add_selected ns l) (length l)) e.empty.ensures))
     ∙ spread-made ns l s.requires
 
-pub spread-map-spec : {M : Type 1} → statement M
-spread-map-spec =
+pub spread_map_spec : {M : Type 1} → statement M
+spread_map_spec =
     tie.close (tie.spec empty-requires add-selected-requires add-coordinates-requires returns)

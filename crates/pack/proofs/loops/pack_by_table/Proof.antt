@@ -16,14 +16,7 @@ use Rattle.pack.proofs.Walking.{store-all, offsets-long, offsets-reach}
 use Rattle.pack.proofs.loops.pack_by_table.Statement.{statement}
 use Rattle.pack.proofs.loops.pack_by_table.Tie as tie
 
--- where the function starts
-abbrev start : tie.After-none-1 → tie.Start
-start c = c.before.before.before.before.before.before.before.before.before
-
-abbrev Tss : tie.Start → List (List ℕ)
-Tss s = tiles_from s.args.lens.now s.args.flat.now
-
-valid : (s : tie.Start) → Valid s.args.sizes.now s.args.p.now (Tss s)
+valid : (s : tie.Start) → Valid s.args.sizes.now s.args.p.now (tiles_from s.args.lens.now s.args.flat.now)
 valid s = shaped-valid s.requires.0.shaped
 
 slice-aggregate-offsets-into : tie.Need-slice_bounds-offsets_into-end
@@ -38,35 +31,27 @@ slice-aggregate-offsets-into-2 c = search rules
 -- the empty table of multipliers has no entry that could be wrong
 offsets-into-requires : tie.Need-offsets_into-requires
 offsets-into-requires c κs =
-    let s = start c in
-    (record { at = λ k h. absurd (not-suc-le-zero h) }, (s.requires.0, (s.requires.1.0, (omega (arith, rest-pos s.args.sizes.now 0 s.requires.0.shaped.small, s.requires.1.1.0.0), omega (arith, s.requires.1.1.0.0), omega (arith, s.requires.1.1.0.1)))))
+    (record { at = λ k h. absurd (not-suc-le-zero h) }, (c.requires.0, (c.requires.1.0, (omega (arith, rest-pos c.args.sizes.now 0 c.requires.0.shaped.small, c.requires.1.1.0.0), omega (arith, c.requires.1.1.0.0), omega (arith, c.requires.1.1.0.1)))))
 
 -- the table has the offsets of all elements
-abbrev All : tie.After-offsets_into → List ℕ
-All c = let s = start c.before in offsets_from s.args.sizes.now s.args.p.now (Tss s) (prod s.args.sizes.now)
-
-all : (c : tie.After-offsets_into) → take (start c.before).args.count c.offsets_into.new.1.1.1.1.1.1.0 ≡ All c
-all c = let s = start c.before in c.offsets_into.ensures ∙ ap (offsets_from s.args.sizes.now s.args.p.now (Tss s)) s.requires.1.1.0.0
+all : (c : tie.After-offsets_into) → take c.args.count c.offsets_into.new.table ≡ (offsets_from c.args.sizes.now c.args.p.now (tiles_from c.args.lens.now c.args.flat.now) (prod c.args.sizes.now))
+all c = c.offsets_into.ensures ∙ ap (offsets_from c.args.sizes.now c.args.p.now (tiles_from c.args.lens.now c.args.flat.now)) c.requires.1.1.0.0
 
 array-share-prefix-table : tie.Need-slice_bounds-table-end
 array-share-prefix-table c = search rules
 
 slice-aggregate-scatter : tie.Need-slice_bounds-scatter-end
 slice-aggregate-scatter c =
-    let o = c.before.before in
-    let s = start o.before in
-    sym (ap length (all o) ∙ offsets-long s.args.sizes.now s.args.p.now (Tss s) (prod s.args.sizes.now) ∙ sym s.requires.1.1.0.0)
+    sym (ap length (all c.before.before) ∙ offsets-long c.args.sizes.now c.args.p.now (tiles_from c.args.lens.now c.args.flat.now) (prod c.args.sizes.now) ∙ sym c.requires.1.1.0.0)
 
 scatter-requires : tie.Need-scatter-requires
 scatter-requires c κs =
-    let o = c.before.before.before in
-    let s = start o.before in
-    let l = offsets-long s.args.sizes.now s.args.p.now (Tss s) (prod s.args.sizes.now) in
-    let room = s.requires.1.1.1.0 in
-    let e = ap length (all o) in (
+    let l = offsets-long c.args.sizes.now c.args.p.now (tiles_from c.args.lens.now c.args.flat.now) (prod c.args.sizes.now) in
+    let room = c.requires.1.1.1.0 in
+    let e = ap length (all c.before.before.before) in (
       omega (arith, e, l, room),
-      subst (λ (t : List ℕ). Reaches 0 t (length s.args.cells.now)) (sym (all o))
-          (offsets-reach s.args.sizes.now s.args.p.now (Tss s) (valid s) (prod s.args.sizes.now) (length s.args.cells.now) (omega arith) s.requires.1.1.1.1),
+      subst (λ (t : List ℕ). Reaches 0 t (length c.args.cells.now)) (sym (all c.before.before.before))
+          (offsets-reach c.args.sizes.now c.args.p.now (tiles_from c.args.lens.now c.args.flat.now) (valid c.before.before.before.before.before.before.before.before.before.before.before.before.before) (prod c.args.sizes.now) (length c.args.cells.now) (omega arith) c.requires.1.1.1.1),
     )
 
 same_length : tie.Need-shape_of-cells
@@ -74,12 +59,9 @@ same_length c = search rules
 
 returns : tie.Need-returns
 returns c =
-    let k = c.before.before in
-    let o = k.before.before.before.before in
-    let s = start o.before in
-    subst (λ (x : List ℕ). Stored s.args.sizes.now s.args.p.now (Tss s) s.args.source.now (prod s.args.sizes.now) s.args.cells.now x)
-    (sym (k.scatter.ensures ∙ ap (λ (t : List ℕ). scattered s.args.source.now 0 t 0 s.args.cells.now) (all o)))
-    (store-all s.args.sizes.now s.args.p.now (Tss s) s.args.source.now s.args.cells.now (valid s) s.requires.1.1.1.1)
+    subst (λ (x : List ℕ). Stored c.args.sizes.now c.args.p.now (tiles_from c.args.lens.now c.args.flat.now) c.args.source.now (prod c.args.sizes.now) c.args.cells.now x)
+    (sym (c.scatter.ensures ∙ ap (λ (t : List ℕ). scattered c.args.source.now 0 t 0 c.args.cells.now) (all c.before.before.before.before.before.before)))
+    (store-all c.args.sizes.now c.args.p.now (tiles_from c.args.lens.now c.args.flat.now) c.args.source.now c.args.cells.now (valid c.before.before.before.before.before.before.before.before.before.before.before.before.before.before.before.before) c.requires.1.1.1.1)
 
 pub pack_by_table_spec : {M : Type 1} → statement M
 pack_by_table_spec =

@@ -13,9 +13,7 @@ same_length c = search rules
 
 returns : tie.Need-returns
 returns c =
-    let k = c.before.before in
-    let s = k.before.before.before.before.before.before.before.before.before in
-    unpack-whole s.args.sizes.now s.args.p.now (tiles_from s.args.lens.now s.args.flat.now) s.args.cells.now s.args.destination.now k.load_elements.new.1.1.1.1.1.1.1.0 k.load_elements.auto.1.1.1.1.1.1.1.0 s.requires.1.1.1.0 k.load_elements.ensures
+    unpack-whole c.args.sizes.now c.args.p.now (tiles_from c.args.lens.now c.args.flat.now) c.args.cells.now c.args.destination.now c.load_elements.new.destination c.load_elements.auto.destination c.requires.1.1.1.0 c.load_elements.ensures
 
 pub unpack_in_spec : {M : Type 1} → statement M
 unpack_in_spec = tie.close (tie.spec load-elements-requires same_length returns)

@@ -17,36 +17,24 @@ cut-of-requires c κs = search rules
 mul-n : tie.Need-overflow_mul-n
 mul-n c = search rules
 
--- where the function starts
-abbrev start : tie.After-cut_of-g → tie.Start
-start c = c.before.before.before.before.before.before.before.before.before.before
-
 -- the widest row is some of the elements
-few : (c : tie.After-cut_of-g) → c.cut_of-g.result.wide * c.cut_of-g.result.span ≤ prod (start c).args.sizes.now
+few : (c : tie.After-cut_of-g) → c.cut_of-g.result.wide * c.cut_of-g.result.span ≤ prod c.args.sizes.now
 few c = let i = c.cut_of-g.ensures.0 in omega (arith, mul-le-mul_right c.cut_of-g.result.span i.narrow, i.room)
 
 offsets-into-requires : tie.Need-offsets_into-requires
 offsets-into-requires c κs =
-    let g = c.before.before in
-    let s = start g in
-    (s.requires.0, (s.requires.1.0, (s.requires.1.1.0, (mul-pos g.cut_of-g.ensures.0.wide g.cut_of-g.ensures.0.span, few g, g.cut_of-g.ensures.1))))
+    (c.requires.0, (c.requires.1.0, (c.requires.1.1.0, (mul-pos c.cut_of-g.ensures.0.wide c.cut_of-g.ensures.0.span, few c.before.before, c.cut_of-g.ensures.1))))
 
 slice-reshare-prefix-unpack-rows : tie.Need-slice_bounds-unpack_rows-end
 slice-reshare-prefix-unpack-rows c = search rules
 
 slice-aggregate-unpack-rows : tie.Need-slice_bounds-unpack_rows-end-2
 slice-aggregate-unpack-rows c =
-    let o = c.before.before.before in
-    let g = o.before.before.before in
-    let s = start g in
-    sym (ap length o.offsets_into.ensures ∙ length-tab (offset s.args.sizes.now s.args.p.now (tiles_from s.args.lens.now s.args.flat.now)) (g.cut_of-g.result.wide * g.cut_of-g.result.span))
+    sym (ap length c.offsets_into.ensures ∙ length-tab (offset c.args.sizes.now c.args.p.now (tiles_from c.args.lens.now c.args.flat.now)) (c.cut_of-g.result.wide * c.cut_of-g.result.span))
 
 unpack-rows-requires : tie.Need-unpack_rows-requires
 unpack-rows-requires c κs =
-    let o = c.before.before.before.before in
-    let g = o.before.before.before in
-    let s = start g in
-    (s.requires.0, (s.requires.1.0, (s.requires.1.1.0, (s.requires.1.1.1.0, (g.cut_of-g.ensures.0, o.offsets_into.ensures)))))
+    (c.requires.0, (c.requires.1.0, (c.requires.1.1.0, (c.requires.1.1.1.0, (c.cut_of-g.ensures.0, c.offsets_into.ensures)))))
 
 same_length : tie.Need-shape_of-table
 same_length c = search rules

@@ -18,31 +18,25 @@ invariant-loop source a table run base cells₀ j₀ cells j = (j ≤ length tab
 abbrev decreases-loop : tie.decreases-loop-j
 decreases-loop source a table run base cells₀ j₀ cells j = length table - j
 
-abbrev start : tie.At-loop-j invariant-loop decreases-loop → tie.Start invariant-loop decreases-loop
-start c = c.before.before.before.before
-
 -- the places of the run at j go on by ones, and its cells are reached
-part : (c : tie.After-run_from-n invariant-loop decreases-loop) → IsPart c.loop-j.j (start c.before.before).args.run (length (start c.before.before).args.table.now) c.run_from-n.result
+part : (c : tie.After-run_from-n invariant-loop decreases-loop) → IsPart c.loop-j.j c.args.run (length c.args.table.now) c.run_from-n.result
 part c = c.run_from-n.ensures
 
-goes : (c : tie.After-run_from-n invariant-loop decreases-loop) → GoesOn (start c.before.before).args.table.now c.loop-j.j c.run_from-n.result
+goes : (c : tie.After-run_from-n invariant-loop decreases-loop) → GoesOn c.args.table.now c.loop-j.j c.run_from-n.result
 goes c =
-    let s = start c.before.before in
-    run_at s.args.run s.args.table.now c.loop-j.j c.run_from-n.result s.requires.1.1 c.loop-j.invariant.2 (part c)
+    run_at c.args.run c.args.table.now c.loop-j.j c.run_from-n.result c.requires.1.1 c.loop-j.invariant.2 (part c)
 
 reached : (c : tie.After-run_from-n invariant-loop decreases-loop)
-    → (start c.before.before).args.base + get_or (start c.before.before).args.table.now c.loop-j.j 0 + c.run_from-n.result ≤ length (start c.before.before).args.cells.now
+    → c.args.base + get_or c.args.table.now c.loop-j.j 0 + c.run_from-n.result ≤ length c.args.cells.now
 reached c =
-    let s = start c.before.before in
-    run-reaches s.args.base s.args.table.now (length s.args.cells.now) c.loop-j.j c.run_from-n.result s.requires.0.1 (part c).some (part c).inside (goes c)
+    run-reaches c.args.base c.args.table.now (length c.args.cells.now) c.loop-j.j c.run_from-n.result c.requires.0.1 (part c).some (part c).inside (goes c)
 
 loop-holds : tie.Need-loop-j-init invariant-loop decreases-loop
 loop-holds c =
-    let s = c.before.before.before in
-    (search rules, refl, at_front s.args.run s.args.table.now, ap (λ (a : ℕ). scattered s.args.source.now s.args.base s.args.table.now a s.args.cells.now) (add-zero s.args.a))
+    (search rules, refl, at_front c.args.run c.args.table.now, ap (λ (a : ℕ). scattered c.args.source.now c.args.base c.args.table.now a c.args.cells.now) (add-zero c.args.a))
 
 run-from-requires : tie.Need-run_from-n-requires invariant-loop decreases-loop
-run-from-requires c κs = ((start c.before).requires.1.0, c.loop-j-test.true)
+run-from-requires c κs = (c.requires.1.0, c.loop-j-test.true)
 
 mul-o : tie.Need-offset_bounds-table-j invariant-loop decreases-loop
 mul-o c = search rules
@@ -54,10 +48,10 @@ add-o : tie.Need-overflow_add-o invariant-loop decreases-loop
 add-o c = omega (arith, reached c.before)
 
 add-copy-values : tie.Need-overflow_add-a invariant-loop decreases-loop
-add-copy-values c = omega (arith, (start c.before.before.before).requires.0.0)
+add-copy-values c = omega (arith, c.requires.0.0)
 
 copy-values-requires : tie.Need-copy_values-requires invariant-loop decreases-loop
-copy-values-requires c κs = let r = c.before.before in (omega (arith, (start r.before.before).requires.0.0, (part r).inside), omega (arith, reached r, r.loop-j.invariant.1))
+copy-values-requires c κs = (omega (arith, c.requires.0.0, (part c.before.before).inside), omega (arith, reached c.before.before, c.loop-j.invariant.1))
 
 add-j : tie.Need-overflow_add-j invariant-loop decreases-loop
 add-j c = omega (arith, (part c.before.before.before.before.before).inside)
@@ -67,15 +61,13 @@ loop-less c = omega (arith, (part c.before.before.before.before.before).some, (p
 
 loop-again : tie.Need-loop-j-preserved invariant-loop decreases-loop
 loop-again c =
-    let k = c.before.before in
-    let r = k.before.before.before in
-    let l = r.loop-j in
-    let s = (start r.before.before).args in
-    let n = r.run_from-n.result in (
-      (part r).inside,
-      k.copy_values.auto.1.1.1.1.0 ∙ l.invariant.1,
-      at_next s.run s.table.now l.j n (part r) l.invariant.2,
-      ap (λ (xs : List ℕ). scattered s.source.now s.base (drop (l.j + n) s.table.now) (s.a + (l.j + n)) xs) k.copy_values.ensures ∙ scatter-run s.source.now s.base s.table.now s.a l.j n l.cells (part r).inside (goes r) ∙ l.invariant.3,
+    let l = c.loop-j in
+    let s = c.args in
+    let n = c.run_from-n.result in (
+      (part c.before.before.before.before.before).inside,
+      c.copy_values.auto.target ∙ l.invariant.1,
+      at_next s.run s.table.now l.j n (part c.before.before.before.before.before) l.invariant.2,
+      ap (λ (xs : List ℕ). scattered s.source.now s.base (drop (l.j + n) s.table.now) (s.a + (l.j + n)) xs) c.copy_values.ensures ∙ scatter-run s.source.now s.base s.table.now s.a l.j n l.cells (part c.before.before.before.before.before).inside (goes c.before.before.before.before.before) ∙ l.invariant.3,
     )
 
 same_length : tie.Need-shape_of-cells invariant-loop decreases-loop
@@ -84,7 +76,7 @@ same_length c = c.loop-j.invariant.1
 returns : tie.Need-returns invariant-loop decreases-loop
 returns c =
     let l = c.loop-j in
-    let s = (start c.before).args in
+    let s = c.args in
     ap (λ (t : List ℕ). scattered s.source.now s.base t (s.a + l.j) l.cells) (sym (drop_of_length-le s.table.now c.loop-j-test.false)) ∙ l.invariant.3
 
 pub scatter_runs_spec : {M : Type 1} → statement M

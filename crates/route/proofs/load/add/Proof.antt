@@ -1,6 +1,5 @@
 -- `route::load::add` meets its contract. Assumes nothing.
 use borrow.Author.Rules.{rules}
-use borrow.Author.Tests.{not-true, not-false}
 use mathlib.Core.Path.{◌≡◌, sym, ap₂, ◌∙◌}
 use mathlib.Core.Bool.{true, ◌&&◌}
 use Rattle.radix.proofs.Tests.{and_left, and_right}
@@ -14,7 +13,7 @@ numbers-are : (c : tie.After-both) → c.both.result ≡ good_numbers c.args.i c
 numbers-are c = c.both.ensures ∙ ap₂ ◌&&◌ c.good_count.ensures c.good_parent.ensures
 
 numbered : (c : tie.Else-not-both) → good_numbers c.args.i c.args.station ≡ true
-numbered c = sym (numbers-are c.before) ∙ not-false _ c.if-not-both.false-raw
+numbered c = sym (numbers-are c.before) ∙ c.if-not-both.false
 
 counted : (c : tie.Else-not-both) → good_count c.args.station ≡ true
 counted c =
@@ -25,7 +24,7 @@ laid_out :
     (c : tie.Else-not-good_layouts) →
     good_layouts c.args.shape.rank c.args.station
     ≡ true
-laid_out c = sym c.good_layouts.ensures ∙ not-false _ c.if-not-good_layouts.false
+laid_out c = sym c.good_layouts.ensures ∙ c.if-not-good_layouts.false
 
 good-count-requires : tie.Need-good_count-requires
 good-count-requires c κs = search rules
@@ -37,7 +36,7 @@ both-requires : tie.Need-both-requires
 both-requires c κs = search rules
 
 returns : tie.Need-returns-then-not-both
-returns c = broken-numbers _ _ _ _ _ (sym (numbers-are c.before) ∙ not-true _ c.if-not-both.true-raw)
+returns c = broken-numbers _ _ _ _ _ (sym (numbers-are c.before) ∙ c.if-not-both.true)
 
 good-layouts-requires : tie.Need-good_layouts-requires
 good-layouts-requires c κs =
@@ -45,7 +44,7 @@ good-layouts-requires c κs =
     (count_low s.args.station (counted c)).1
 
 returns-2 : tie.Need-returns-then-not-good_layouts
-returns-2 c = broken-layouts _ _ _ _ _ (numbered c.before.before) (sym c.good_layouts.ensures ∙ not-true _ c.if-not-good_layouts.true-raw)
+returns-2 c = broken-layouts _ _ _ _ _ (numbered c.before.before) (sym c.good_layouts.ensures ∙ c.if-not-good_layouts.true)
 
 both-requires-2 : tie.Need-both-requires-2
 both-requires-2 c κs = search rules
@@ -53,13 +52,13 @@ both-requires-2 c κs = search rules
 returns-3 : tie.Need-returns-then-not-both-2
 returns-3 c =
     let e = c.before.before in
-    broken-before _ _ _ _ _ (numbered e.before.before) (laid_out e) (sym c.both-2.ensures ∙ not-true _ c.if-not-both-2.true-raw)
+    broken-before _ _ _ _ _ (numbered e.before.before) (laid_out e) (sym c.both-2.ensures ∙ c.if-not-both-2.true)
 
 enter-requires : tie.Need-enter-requires
 enter-requires c κs =
     let e = c.before.before in
     let s = e.before.before.before.before.before.before in
-    let k = sym c.both-2.ensures ∙ not-false _ c.if-not-both-2.false-raw in
+    let k = sym c.both-2.ensures ∙ c.if-not-both-2.false in
     let h = s.args.loaded in
     let a = and_left h.numbers_kept h.layouts_kept k in
     let b = and_right h.numbers_kept h.layouts_kept k in (

@@ -3,7 +3,6 @@ use borrow.Author.Rules.{rules}
 use borrow.Author.Tests.{le-leb, lt-leb}
 use mathlib.Core.Path.{◌≡◌, refl, sym, ap, ◌∙◌, subst}
 use mathlib.Core.Bool.{Bool}
-use mathlib.Core.Logic.{⊎_elim}
 use mathlib.Core.List.{List}
 use Prim.Native.Nat.{ℕ, ◌≤◌, ◌-◌, ◌+◌, min}
 use native.Mathlib.Omega.{arith}
@@ -17,6 +16,7 @@ use Rattle.shape.specs.declared.Shape.{Shape}
 use Rattle.route.specs.Loading.{Filled}
 use Rattle.route.proofs.Tables.{every-next, still_kept, now-broken, filled-start, filled_next}
 use Rattle.route.proofs.load.enter_sizes.Statement.{statement}
+use Rattle.route.proofs.load.enter_sizes.Lts.{then-size-gt-MAX_COUNT, else-size-gt-MAX_COUNT}
 use Rattle.route.proofs.load.enter_sizes.Tie as tie
 
 -- the test and the entry at a place
@@ -71,10 +71,12 @@ loop-again c =
     let a = i.loop-a.a in
     let f = small (start i).args.shape (start i).args.station.layouts in (
       omega arith,
-      ⊎_elim
-          (λ w. w.1 ∙ sym (now-broken (every f a) (f a) (every-next f a) (lt-leb _ _ (over-cap _ _ p.padded_capped-size.ensures w.0.taken))))
-          (λ w. w.1 ∙ i.loop-a.invariant.1 ∙ sym (still_kept (every f a) (f a) (every-next f a) (le-leb _ _ (under-cap _ _ p.padded_capped-size.ensures w.0.left))))
-          c.if-size-gt-MAX_COUNT.branch,
+      elim c.if-size-gt-MAX_COUNT.branch [
+        | then-size-gt-MAX_COUNT w ↦
+            w.kept-is ∙ sym (now-broken (every f a) (f a) (every-next f a) (lt-leb _ _ (over-cap _ _ p.padded_capped-size.ensures w.if-size-gt-MAX_COUNT.true)))
+        | else-size-gt-MAX_COUNT w ↦
+            w.kept-is ∙ i.loop-a.invariant.1 ∙ sym (still_kept (every f a) (f a) (every-next f a) (le-leb _ _ (under-cap _ _ p.padded_capped-size.ensures w.if-size-gt-MAX_COUNT.false)))
+      ],
       filled_next _ i.loop-a.invariant.2 (omega (arith, i.loop-a.invariant.2.long)) p.padded_capped-size.ensures,
     )
 

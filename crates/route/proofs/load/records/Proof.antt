@@ -1,6 +1,5 @@
 -- `route::load::records` meets its contract. Assumes nothing.
 use borrow.Author.Rules.{rules}
-use borrow.Author.Tests.{not-true, not-false}
 use mathlib.Core.Path.{sym, ◌∙◌}
 use native.Mathlib.Omega.{arith}
 use Rattle.route.proofs.Tables.{clash}
@@ -16,7 +15,7 @@ returns c =
       few = omega arith;
       held = omega arith;
       shape = λ l. absurd (omega arith);
-      all = λ g h. clash _ g (sym c.good_shape.ensures ∙ not-true _ c.if-not-good_shape.true-raw);
+      all = λ g h. clash _ g (sym c.good_shape.ensures ∙ c.if-not-good_shape.true);
     }
 
 returns-2 : tie.Need-returns-then-number-gt-MAX_STATIONS
@@ -33,7 +32,7 @@ returns-3 c =
     record {
       few = omega arith;
       held = omega arith;
-      shape = λ l. sym c.good_shape.ensures ∙ not-false _ c.if-not-good_shape.false-raw;
+      shape = λ l. sym c.good_shape.ensures ∙ c.if-not-good_shape.false;
       all = λ g h. omega arith;
     }
 
@@ -42,7 +41,7 @@ returns-4 c =
     record {
       few = omega arith;
       held = omega arith;
-      shape = λ l. sym c.good_shape.ensures ∙ not-false _ c.if-not-good_shape.false-raw;
+      shape = λ l. sym c.good_shape.ensures ∙ c.if-not-good_shape.false;
       all = λ g h. omega arith;
     }
 

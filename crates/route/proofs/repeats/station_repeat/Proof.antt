@@ -2,7 +2,6 @@
 use borrow.Author.Rules.{rules}
 use borrow.Author.Count.{below_none, below_more}
 use mathlib.Core.Path.{◌≡◌, sym, ◌∙◌, subst}
-use mathlib.Core.Logic.{⊎_elim}
 use mathlib.Core.Bool.{Bool, false}
 use mathlib.Core.List.{List}
 use Prim.Native.Nat.{ℕ, ◌≤◌, ◌<◌, ◌-◌}
@@ -19,6 +18,7 @@ use Rattle.route.specs.LayoutRepeats.{same_at}
 use Rattle.route.specs.Loading.{station_repeat}
 use Rattle.route.proofs.LayoutRepeats.{station-found, station-free}
 use Rattle.route.proofs.repeats.station_repeat.Statement.{statement}
+use Rattle.route.proofs.repeats.station_repeat.Lts.{else-search-test, then-search-test+then-loop-earlier-test+then-same_layout}
 use Rattle.route.proofs.repeats.station_repeat.Tie as tie
 
 -- two places hold the same
@@ -89,11 +89,12 @@ returns c =
     let s = c.before.before in
     let x = s.args.station in
     let i = s.args.i in
-    ⊎_elim
-    (λ w. absurd (omega (arith, w.0.left, c.if-later-count.true)))
-    (λ w. subst (λ (e : ℕ). Refused (RepeatedLayout i e s.search.later) ≡ station_repeat x i) (sym w.7)
-    (station-found x i (first-repeat (same_at x) x.count w.1.earlier s.search.later w.2.taken w.0.taken (sym w.5.ensures ∙ w.6.taken) w.1.inv s.search.invariant.1)))
-    c.search-test.branch
+    elim c.search-test.branch [
+      | else-search-test w ↦ absurd (omega (arith, w.search-test.false, c.if-later-count.true))
+      | then-search-test+then-loop-earlier-test+then-same_layout w ↦
+          subst (λ (e : ℕ). Refused (RepeatedLayout i e s.search.later) ≡ station_repeat x i) (sym w.earlier-is)
+          (station-found x i (first-repeat (same_at x) x.count w.loop-earlier.earlier s.search.later w.loop-earlier-test.true w.search-test.true (sym w.same_layout.ensures ∙ w.if-same_layout.true) w.loop-earlier.invariant s.search.invariant.1))
+    ]
 
 returns-2 : tie.Need-returns-else-later-count invariant-loop decreases-loop invariant-search decreases-search
 returns-2 c =

@@ -1,6 +1,5 @@
 -- `route::same::same_layout` meets its contract. Assumes nothing.
 use borrow.Author.Rules.{rules}
-use borrow.Author.Tests.{not-true, not-false}
 use mathlib.Core.Path.{◌≡◌, sym, ap₂, ◌∙◌}
 use native.Mathlib.Omega.{arith}
 use Rattle.layout.specs.Layout.{minor_to_major}
@@ -42,7 +41,7 @@ same-list-requires c κs = search rules
 
 returns : tie.Need-returns-then-not-same_list
 unfolding same_layout
-returns c = rw (sym (orders c.before) ∙ not-true c.same_list.result c.if-not-same_list.true-raw)
+returns c = rw (sym (orders c.before) ∙ c.if-not-same_list.true)
 
 array-share-prefix-lens : tie.Need-slice_bounds-lens-end
 array-share-prefix-lens c = (first c.before.before.before.before.before.before.before.before.before.before).tile-room
@@ -76,7 +75,7 @@ returns-2 : tie.Need-returns
 unfolding same_layout
 returns-2 c =
     let l = c.before.before.before.before.before.before.before.before.before in
-    rw (sym (orders l.before) ∙ not-false l.same_list.result l.if-not-same_list.false-raw) c.same_tiles.ensures
+    rw (sym (orders l.before) ∙ l.if-not-same_list.false) c.same_tiles.ensures
 
 pub same_layout_spec : {M : Type 1} → statement M
 same_layout_spec =

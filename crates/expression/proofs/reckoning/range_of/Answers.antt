@@ -1,0 +1,96 @@
+-- `expression::reckoning::range_of` meets its contract. Assumes nothing.
+use borrow.Author.Rules.{sfits_of}
+use mathlib.Core.Path.{◌≡◌, refl, sym, ap, ◌∙◌, subst}
+use Prim.Native.Nat.{ℕ, ◌+◌, ◌-◌, ◌<◌, ◌≤◌}
+use native.Mathlib.Omega.{arith}
+use lib.ListN.{drop}
+use mir.Facts.{to_z-of_z}
+use Rattle.expression.specs.Node.{max_variables, max_nodes}
+use Rattle.expression.specs.Machine.{Fed}
+use Rattle.expression.specs.Reckon.{range_alg, zip_ranges}
+use Rattle.expression.proofs.Reading.{node-sound, node-small}
+use Rattle.expression.proofs.Machines.{loop-turn, loop-last, loop-fed, loop-over}
+use Rattle.expression.proofs.Meaning.{reckoned, range-fed, range-is}
+use Rattle.expression.proofs.Pairs.{small-zeros, ends}
+use Rattle.expression.proofs.reckoning.range_of.Goals as goal
+
+near : (t top i from : ℕ) → top ≤ t + 1 → max_nodes ≤ top + (i - from) → from ≤ i → max_nodes ≤ t + (i + 1 - from)
+near t top i from h k m = omega arith
+
+pub loop-i-init : goal.loop-i-init
+loop-i-init c = (omega arith, (omega arith, (omega arith, (omega arith, (record { long-lows = refl; long-highs = refl; small-lows = small-zeros max_nodes; small-highs = small-zeros max_nodes }, let q : c.args.from + c.args.count - c.args.from ≡ c.args.count = omega arith in rw q)))))
+
+pub step_range-requires : goal.step_range-requires
+step_range-requires c =
+    let n = c in
+    let l = n in
+    let s = l in
+    let a = s.args in
+    let h : l.loop-i.i < a.from + a.count = omega arith in
+    let e = rw (to_z-of_z (sfits_of n.node_of-arg-1.given)) at n.node_of-node.ensures in
+    let w = range-fed a.lower.now a.upper.now _ s.requires.whole in
+    rw e
+    (record {
+      long-lower = s.requires.long-lower;
+      long-upper = s.requires.long-upper;
+      sound = node-sound max_variables max_variables a.dims a.ranges _ _ (λ n u v. v) (λ n u v. v);
+      room = omega arith;
+      within = omega arith;
+      stacks = l.loop-i.invariant.1.1.1.1.0;
+      small-lower = node-small a.lower.now a.dims a.ranges _ _ s.requires.small-lower;
+      small-upper = node-small a.upper.now a.dims a.ranges _ _ s.requires.small-upper;
+      fed = loop-fed (range_alg a.lower.now a.upper.now) a.dims a.ranges a.kinds.now a.values.now l.loop-i.i (a.from + a.count) (drop l.loop-i.top (zip_ranges l.loop-i.los l.loop-i.his)) _ l.loop-i.invariant.1.1.1.1.1 h w;
+    })
+
+pub returns-in-Over : goal.returns-in-Over
+returns-in-Over c =
+    let n = c in
+    let l = n in
+    let s = l in
+    let a = s.args in
+    let h : l.loop-i.i < a.from + a.count = omega arith in
+    let e = rw (to_z-of_z (sfits_of n.node_of-arg-1.given)) at n.node_of-node.ensures in
+    let q = rw (c.in-Over.is, e) at c.step_range.ensures.his_after in
+    ap reckoned (loop-over (range_alg a.lower.now a.upper.now) a.dims a.ranges a.kinds.now a.values.now l.loop-i.i (a.from + a.count) (drop l.loop-i.top (zip_ranges l.loop-i.los l.loop-i.his)) _ l.loop-i.invariant.1.1.1.1.1 h q) ∙ range-is a.lower.now a.upper.now _ s.requires.whole
+
+pub loop-i-preserved : goal.loop-i-preserved
+loop-i-preserved c =
+    let n = c in
+    let l = n in
+    let s = l in
+    let a = s.args in
+    let h : l.loop-i.i < a.from + a.count = omega arith in
+    let e = rw (to_z-of_z (sfits_of n.node_of-arg-1.given)) at n.node_of-node.ensures in
+    let x = c in
+    let q = rw (c.in-At.is, e) at x.step_range.ensures.his_after in
+    let t = c.in-At.t in
+    let m : (t ≤ max_nodes) × (l.loop-i.top ≤ t + 1) = rw c.in-At.is at x.step_range.ensures.near.0 in
+    (omega arith, (omega arith, (m.0, (near t l.loop-i.top l.loop-i.i a.from m.1 l.loop-i.invariant.1.1.1.0 l.loop-i.invariant.0, (x.step_range.ensures.near.1, loop-turn (range_alg a.lower.now a.upper.now) a.dims a.ranges a.kinds.now a.values.now l.loop-i.i (a.from + a.count) (drop l.loop-i.top (zip_ranges l.loop-i.los l.loop-i.his)) _ l.loop-i.invariant.1.1.1.1.1 h _ q)))))
+
+pub bounds-los-top : goal.bounds-los-top
+bounds-los-top c =
+    let l = c in
+    let s = l in
+    let a = s.args in
+    let w = range-fed a.lower.now a.upper.now _ s.requires.whole in
+    let o = loop-last (range_alg a.lower.now a.upper.now) a.dims a.ranges a.kinds.now a.values.now l.loop-i.i (a.from + a.count) (drop l.loop-i.top (zip_ranges l.loop-i.los l.loop-i.his)) _ l.loop-i.invariant.1.1.1.1.1 c.loop-i-test.false in
+    let f = ends l.loop-i.los l.loop-i.his l.loop-i.top l.loop-i.invariant.1.1.1.1.0 l.loop-i.invariant.1.1.0 (subst Fed (sym o) w) in f.0
+
+pub bounds-his-top : goal.bounds-his-top
+bounds-his-top c =
+    let l = c in
+    let s = l in
+    let a = s.args in
+    let w = range-fed a.lower.now a.upper.now _ s.requires.whole in
+    let o = loop-last (range_alg a.lower.now a.upper.now) a.dims a.ranges a.kinds.now a.values.now l.loop-i.i (a.from + a.count) (drop l.loop-i.top (zip_ranges l.loop-i.los l.loop-i.his)) _ l.loop-i.invariant.1.1.1.1.1 c.loop-i-test.false in
+    let f = ends l.loop-i.los l.loop-i.his l.loop-i.top l.loop-i.invariant.1.1.1.1.0 l.loop-i.invariant.1.1.0 (subst Fed (sym o) w) in f.0
+
+pub returns : goal.returns
+returns c =
+    let l = c in
+    let s = l in
+    let a = s.args in
+    let w = range-fed a.lower.now a.upper.now _ s.requires.whole in
+    let o = loop-last (range_alg a.lower.now a.upper.now) a.dims a.ranges a.kinds.now a.values.now l.loop-i.i (a.from + a.count) (drop l.loop-i.top (zip_ranges l.loop-i.los l.loop-i.his)) _ l.loop-i.invariant.1.1.1.1.1 c.loop-i-test.false in
+    let f = ends l.loop-i.los l.loop-i.his l.loop-i.top l.loop-i.invariant.1.1.1.1.0 l.loop-i.invariant.1.1.0 (subst Fed (sym o) w) in
+    rw (to_z-of_z (sfits_of c.result-1.given), to_z-of_z (sfits_of c.result-2-1.given)) (f.1 ∙ ap reckoned o ∙ range-is a.lower.now a.upper.now _ s.requires.whole)
