@@ -22,7 +22,6 @@ use Rattle.indexing.specs.Map.{max_results, max_constraints, good_ranges}
 use Rattle.indexing.specs.Ready.{Formed}
 use Rattle.indexing.specs.declared.IndexingMap.{IndexingMap}
 use Rattle.folding.specs.Map.{Constraint, constraint_trees}
-use Rattle.encoding.specs.Written.{counted}
 use Rattle.encoding.specs.Encode.{filled, nodes_of, encode_map}
 use Rattle.encoding.proofs.Encoded.{nodes-append}
 use Rattle.indexing.specs.Answers.{no_map, map_answer, answered_map}

@@ -5,7 +5,7 @@ use mathlib.Core.List.{List, [], ◌∷◌, ◌++◌, map, append-nil, append_as
 use Prim.Native.Nat.{ℕ, zero, suc, ◌+◌, ◌-◌, ◌<◌, ◌≤◌}
 use native.Mathlib.Omega.{arith}
 use native.Mathlib.Numerals.{add-one}
-use lib.IntN.{ℤ, pos, ◌+ℤ◌, +ℤ_idl}
+use lib.IntN.{ℤ, pos, +ℤ_idl}
 use lib.ListN.{length, get_or, drop, set, length-append, length-map}
 use lib.Signed.{le_z}
 use Rattle.expression.specs.Expression.{Kind, Expr, Range, span, node_count}

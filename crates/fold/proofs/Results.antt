@@ -2,7 +2,7 @@
 use mathlib.Core.Path.{◌≡◌, refl, sym, ap, ap₂, ◌∙◌, subst}
 use mathlib.Core.Bool.{Bool, true, false, ◌&&◌}
 use mathlib.Core.List.{List, [], ◌∷◌, ◌++◌, map}
-use Prim.Native.Nat.{ℕ, zero, suc, ◌+◌, ◌-◌, ◌<◌, ◌≤◌}
+use Prim.Native.Nat.{ℕ, zero, suc, ◌-◌, ◌<◌, ◌≤◌}
 use native.Mathlib.Omega.{arith}
 use native.Mathlib.Nat.{le_of_suc-le-suc, eq-or-lt_of_le}
 use mathlib.Core.Logic.{⊎_elim}
@@ -18,7 +18,7 @@ use Rattle.folding.specs.Working.{small_working}
 use Rattle.folding.specs.Map.{fold_tree, fold_results, small_trees}
 use Rattle.words.specs.Words.{sum_words}
 use Rattle.words.proofs.Tests.{clash}
-use Rattle.encoding.specs.Written.{counted, Room, EmitsSum}
+use Rattle.encoding.specs.Written.{Room, EmitsSum}
 use Rattle.encoding.specs.Encode.{filled, nodes_of, Holds, Zeros}
 use Rattle.encoding.proofs.Lists.{map-append}
 use Rattle.encoding.proofs.Filled.{filled_next}

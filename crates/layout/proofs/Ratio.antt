@@ -5,7 +5,7 @@ use Prim.Native.Nat.{ℕ, zero, suc, ◌*◌, ◌<◌, ◌≤◌}
 use native.Mathlib.Nat.{mul-pos}
 use native.Mathlib.Omega.{arith}
 use Rattle.radix.specs.Radix.{max_count}
-use lib.Dec.{T, leb, le→leb, eqb-suc-zero}
+use lib.Dec.{T, le→leb, eqb-suc-zero}
 use lib.IntN.{pos}
 use lib.Ieee.{Float, nan, inf, fin, binary64, up, down, round, div, of_int, in_float}
 use lib.Ieee.Exact.{HasValue}

@@ -1,6 +1,6 @@
 // Reading a map's constraints: expressions with their intervals.
 use crate::bounds::read_interval;
-use crate::expression::read_expression;
+use crate::expressions::read_expression;
 use reading::{Cursor, expect, is_next, one_more};
 
 // How many constraints there are, the numbers of nodes and the ends of the first 32, and where the next node goes.

@@ -3,7 +3,7 @@
 
 mod bounds;
 mod constraints;
-mod expression;
+mod expressions;
 mod head;
 mod map;
 mod nodes;

@@ -1,5 +1,5 @@
 // Reading a map's results: expressions with commas between them.
-use crate::expression::read_expression;
+use crate::expressions::read_expression;
 use reading::{Cursor, expect, is_next, one_more};
 
 // How many results there are, the numbers of nodes of the first 8, and where the next node goes.

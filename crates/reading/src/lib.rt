@@ -13,5 +13,5 @@ pub use pieces::{
 pub use token::{
     Cursor, Number, Word, byte_at, digits_end, expect, expect_hyphenated, expect_word, failed,
     finish, has_more, is_digit, is_hyphenated, is_next, is_number_before, is_word, one_more, part,
-    read_number, read_word, skip, value_of,
+    read_number, read_word, same, skip, value_of,
 };

@@ -1,4 +1,5 @@
 // The tokens of a line: bytes, words and numbers, with spaces between them.
+ghost use Rattle.std.specs.Prelude.{◌≡◌, ◌↔◌, IsTrue};
 
 // A place in a line. Once ok is false it stays at the token that cannot be read.
 #[derive(Clone, Copy)]
@@ -32,6 +33,13 @@ const DIGIT: u8 = 4;
 const HYPHEN: u8 = 8;
 
 const OTHER: u8 = 16;
+
+// Whether two slices have the same bytes.
+pub fn same(left: &[u8], right: &[u8]) -> bool
+    ensures { IsTrue result ↔ left.now ≡ right.now }
+{
+    left == right
+}
 
 // The byte at a place, and past the end of the line a line's end.
 pub fn byte_at(line: &[u8], at: usize) -> u8 {
@@ -208,7 +216,7 @@ fn expect_bytes(line: &[u8], from: Cursor, token: Word, bytes: &[u8]) -> Cursor 
     if !from.ok {
         return from;
     }
-    if part(line, token.start, token.end) == bytes {
+    if same(part(line, token.start, token.end), bytes) {
         return Cursor {
             at: token.end,
             ok: true,

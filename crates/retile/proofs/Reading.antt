@@ -1,13 +1,12 @@
 -- What a row of cells reads: the source's cells along one dimension, or 0 in padding. Assumes nothing.
-use mathlib.Core.Path.{◌≡◌, refl, sym, ap, ◌∙◌}
-use Prim.Native.Nat.{ℕ, ◌+◌, ◌*◌, ◌<◌, ◌≤◌}
+use mathlib.Core.Path.{◌≡◌, sym, ap, ◌∙◌}
+use Prim.Native.Nat.{ℕ, ◌+◌, ◌*◌, ◌<◌}
 use native.Mathlib.Nat.{zero-mul}
 use native.Mathlib.Omega.{arith}
 use mathlib.Core.List.{List}
-use lib.ListN.{length, get_or, take}
+use lib.ListN.{get_or, take}
 use lib.Seq.{get_or-take}
-use Rattle.radix.specs.Radix.{prod}
-use Rattle.tiling.specs.Cell.{holds, padding, cell}
+use Rattle.tiling.specs.Cell.{holds, cell}
 use Rattle.tiling.specs.Runs.{PaddingRun}
 use Rattle.tiling.specs.Tile.{offset, padded}
 use Rattle.tiling.proofs.OwnCells.{Valid, cell_holds, cell-offset, offset-below}

@@ -1,11 +1,11 @@
 -- What the steps of a settling keep: after k steps the memory is what the first k stores leave. Assumes nothing.
 use mathlib.Core.Path.{◌≡◌, refl, sym, ap, ◌∙◌}
-use Prim.Native.Nat.{ℕ, zero, suc, ◌+◌, ◌-◌, ◌*◌, ◌<◌, ◌≤◌}
+use Prim.Native.Nat.{ℕ, zero, suc, ◌+◌, ◌*◌, ◌<◌, ◌≤◌}
 use native.Mathlib.Omega.{arith}
 use native.Mathlib.Nat.{le_of_suc-le-suc, not-suc-le-zero}
 use mathlib.Core.List.{List, [], ◌∷◌, ◌++◌}
 use lib.ListN.{length, take, length-set}
-use Rattle.retile.specs.Stores.{Store, cell, mark, Memory, memory, apply, apply_all, stores}
+use Rattle.retile.specs.Stores.{Store, cell, mark, Memory, apply, apply_all, stores}
 use Rattle.retile.specs.Steps.{next_store, turned}
 use Rattle.retile.specs.declared.stores.Phase.{Phase}
 use Rattle.retile.specs.declared.stores.Phase.TheVariants.{Cell, Mark}

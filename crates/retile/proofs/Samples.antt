@@ -1,7 +1,7 @@
 -- Samples of the definitions: the stores of two cells, what a cut between a cell's store and its mark's leaves, and the cells of a transposed table. Assumes nothing.
 use mathlib.Core.Path.{◌≡◌, refl}
 use Prim.Native.Nat.{ℕ, ◌+◌}
-use mathlib.Core.List.{List, [], ◌∷◌}
+use mathlib.Core.List.{[], ◌∷◌}
 use lib.ListN.{take}
 use Rattle.radix.specs.Radix.{tab}
 use Rattle.shape.specs.Dimensions.{place}

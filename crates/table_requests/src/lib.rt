@@ -9,6 +9,8 @@ use reading::{
     read_unsigned,
 };
 use shape::Shape;
+use std::io;
+use std::io::Write;
 use writing::{error, labelled, refused, spaced, text};
 
 // What stands before the layouts: a shape, a padded size, and how many offsets the table has; a buffer holds the first.
@@ -92,34 +94,34 @@ fn read_layouts(line: &[u8], from: Cursor) -> LayoutsRead {
 }
 
 // What was found, in words.
-fn put_finding(out: &mut [u8], at: usize, finding: Finding) -> usize {
+fn put_finding<W: Write>(out: &mut W, finding: Finding) -> io::Result<()> {
     match finding {
-        Finding::Sound => text(out, at, b"sound"),
-        Finding::Outside(k) => labelled(out, at, b"outside ", k.0),
+        Finding::Sound => text(out, b"sound"),
+        Finding::Outside(k) => labelled(out, b"outside ", k.0),
         Finding::Shared(e, l) => {
-            let next = labelled(out, at, b"shared ", e.0);
-            spaced(out, next, l.0)
+            labelled(out, b"shared ", e.0)?;
+            spaced(out, l.0)
         }
     }
 }
 
 // The answer to a table whose arguments start at a cursor.
-pub fn answer_table(line: &[u8], from: Cursor, out: &mut [u8], at: usize) -> usize {
+pub fn answer_table<W: Write>(line: &[u8], from: Cursor, out: &mut W) -> io::Result<()> {
     let mut offsets = [0u64; 4097];
     let read = read_sized_table(line, from, &mut offsets);
     let shape = read.shape;
     let end = finish(line, read.next);
     if !end.ok {
-        return error(out, at, end.at);
+        return error(out, end.at);
     }
     match offset_table::judge_table(shape, first_of(&offsets, read.count), read.padded) {
-        Judged::Found(finding) => put_finding(out, at, finding),
-        Judged::Refused(r) => refused(out, at, r),
+        Judged::Found(finding) => put_finding(out, finding),
+        Judged::Refused(r) => refused(out, r),
     }
 }
 
 // The answer to the question which of the layouts makes a table.
-pub fn answer_which(line: &[u8], from: Cursor, out: &mut [u8], at: usize) -> usize {
+pub fn answer_which<W: Write>(line: &[u8], from: Cursor, out: &mut W) -> io::Result<()> {
     let mut offsets = [0u64; 4097];
     let read = read_sized_table(line, from, &mut offsets);
     let shape = read.shape;
@@ -127,11 +129,11 @@ pub fn answer_which(line: &[u8], from: Cursor, out: &mut [u8], at: usize) -> usi
     let layouts = list.layouts;
     let end = finish(line, list.next);
     if !end.ok {
-        return error(out, at, end.at);
+        return error(out, end.at);
     }
     let table = first_of(&offsets, read.count);
     match offset_table::layout_of_table(shape, table, read.padded, layouts, list.count) {
-        Named::At(place) => labelled(out, at, b"layout ", place as u64),
-        Named::Refused(r) => refused(out, at, r),
+        Named::At(place) => labelled(out, b"layout ", place as u64),
+        Named::Refused(r) => refused(out, r),
     }
 }

@@ -2,7 +2,7 @@
 use borrow.Author.Rules.{rules}
 use mathlib.Core.Path.{◌≡◌, sym, ap, ◌∙◌}
 use mathlib.Core.List.{[], ◌∷◌}
-use Prim.Native.Nat.{ℕ, ◌-◌, ◌≤◌, min}
+use Prim.Native.Nat.{ℕ, ◌-◌, min}
 use native.Mathlib.Nat.{min-le_right}
 use native.Mathlib.Omega.{arith}
 use lib.ListN.{length}
@@ -29,14 +29,10 @@ judge-retile-requires c κs = search rules
 enum_told : tie.Need-enum_told-1
 enum_told c = search rules
 
--- where the function starts, from the verdict, and the two sides
-abbrev start : tie.After-judge_retile → tie.Start
-start j = j.before.before.before.before.before.before
-
 -- the verdict is that of the rules
-answer : (j : tie.After-judge_retile) → let a = (start j).args in j.judge_retile.result ≡ judge (retile_rules a.shape a.from a.to (length a.source.now) (length a.cells.now) a.mark.now)
+answer : (j : tie.After-judge_retile) → let a = j.args in j.judge_retile.result ≡ judge (retile_rules a.shape a.from a.to (length a.source.now) (length a.cells.now) a.mark.now)
 answer j =
-    let a = (start j).args in
+    let a = j.args in
     let x = j.side_of-a in
     let y = j.side_of-b in
     j.judge_retile.ensures
@@ -44,41 +40,35 @@ answer j =
     x.ensures.0 (λ e. (x.ensures.1 e).padded) y.ensures.0 (λ e. (y.ensures.1 e).padded)
 
 -- the call is judged done, and what that gives
-abbrev judging : tie.In-Done → tie.After-judge_retile
-judging t = t.before
+judged : (t : tie.In-Done) → let a = t.args in judge (retile_rules a.shape a.from a.to (length a.source.now) (length a.cells.now) a.mark.now) ≡ Done
+judged t = sym (answer t.before) ∙ t.in-Done.is
 
-judged : (t : tie.In-Done) → let a = (start (judging t)).args in judge (retile_rules a.shape a.from a.to (length a.source.now) (length a.cells.now) a.mark.now) ≡ Done
-judged t = sym (answer (judging t)) ∙ t.in-Done.is
-
-given : (t : tie.In-Done) → let a = (start (judging t)).args in Lent a.shape a.from a.to (length a.source.now) (length a.cells.now) a.mark.now
+given : (t : tie.In-Done) → let a = t.args in Lent a.shape a.from a.to (length a.source.now) (length a.cells.now) a.mark.now
 given t = lent _ _ _ _ _ _ (judged t)
 
-size : (t : tie.In-Done) → let a = (start (judging t)).args in (judging t).before.before.side-of2.result.extent.padded ≡ padded_of a.shape a.to
-size t = let y = (judging t).before.before.side-of2 in (y.ensures.1 (y.ensures.0 ∙ (given t).to-judged)).padded
+size : (t : tie.In-Done) → let a = t.args in t.side_of-b.result.extent.padded ≡ padded_of a.shape a.to
+size t = let y = t.side_of-b in (y.ensures.1 (y.ensures.0 ∙ (given t).to-judged)).padded
 
 sub-least : tie.Need-overflow_sub-b
-sub-least c = let t = c.before in omega (arith, size t, (given t).mark)
+sub-least c = omega (arith, size c.before, (given c.before).mark)
 
 least-requires : tie.Need-least-count-requires
 least-requires c κs = search rules
 
 -- the cells to settle
-count : (c : tie.After-least-count) → let a = (start (judging c.before)).args in c.least-count.result ≡ settled (padded_of a.shape a.to) a.mark.now a.allowance
+count : (c : tie.After-least-count) → let a = c.args in c.least-count.result ≡ settled (padded_of a.shape a.to) a.mark.now a.allowance
 count c =
-    let t = c.before.before in
-    let a = (start (judging t)).args in
-    c.least-count.ensures ∙ ap (λ (k : ℕ). min a.allowance (k - a.mark.now)) (size t)
+    let a = c.args in
+    c.least-count.ensures ∙ ap (λ (k : ℕ). min a.allowance (k - a.mark.now)) (size c.before.before)
 
 settle-in-requires : tie.Need-settle_in-requires
 settle-in-requires c κs =
-    let l = c.before.before in
-    let t = l.before.before in
-    let g = given t in
-    let a = (start (judging t)).args in
-    let x = (judging t).before.before.before.side-of in
-    let y = (judging t).before.before.side-of2 in (
+    let g = given c.before.before.before.before in
+    let a = c.args in
+    let x = c.side_of-a in
+    let y = c.side_of-b in (
       (x.ensures, g.from-judged, g.from-room),
-      ((y.ensures, g.to-judged, g.to_room), omega (arith, count l, g.mark, min-le_right a.allowance (padded_of a.shape a.to - a.mark.now))),
+      ((y.ensures, g.to-judged, g.to_room), omega (arith, count c.before.before, g.mark, min-le_right a.allowance (padded_of a.shape a.to - a.mark.now))),
     )
 
 enum-known-r : tie.Need-enum_known-r
@@ -90,13 +80,10 @@ same_length c = search rules
 returns : tie.Need-returns-in-Done
 unfolding retile_answer retile_left
 returns c =
-    let k = c.before.before in
-    let l = k.before.before.before in
-    let t = l.before.before in
-    let a = (start (judging t)).args in
+    let a = c.args in
     let M : Memory = memory a.cells.now a.mark.now in (
-      rw (judged t) (ap (λ (n : ℕ). done (n ∷ [])) (count l)),
-      rw (judged t) (k.settle_in.ensures ∙ ap (λ (n : ℕ). apply_all (stores (value_of a.shape a.from a.to a.source.now) a.mark.now n) M) (count l)),
+      rw (judged c.before.before.before.before.before.before.before) (ap (λ (n : ℕ). done (n ∷ [])) (count c.before.before.before.before.before)),
+      rw (judged c.before.before.before.before.before.before.before) (c.settle_in.ensures ∙ ap (λ (n : ℕ). apply_all (stores (value_of a.shape a.from a.to a.source.now) a.mark.now n) M) (count c.before.before.before.before.before)),
     )
 
 returns-2 : tie.Need-returns-in-Refused

@@ -1,6 +1,6 @@
 -- `retile::settle_in` meets its contract. Assumes nothing.
 use borrow.Author.Rules.{rules}
-use mathlib.Core.Path.{◌≡◌, sym, ap, ◌∙◌, subst}
+use mathlib.Core.Path.{sym, ap, ◌∙◌, subst}
 use mathlib.Core.List.{List}
 use Prim.Native.Nat.{ℕ, ◌+◌, ◌≤◌}
 use lib.ListN.{take}
@@ -14,86 +14,80 @@ use Rattle.retile.proofs.Sided.{Sided, sided}
 use Rattle.retile.proofs.settle_in.Statement.{statement}
 use Rattle.retile.proofs.settle_in.Tie as tie
 
--- where the function starts, from the place where all parts are read
-abbrev start : tie.After-qdims-1 → tie.Start
-start c = c.before.before.before.before.before.before.before.before.before.before.before
-
 -- the shape with each layout is accepted, and each side is measured
-module _ (s : tie.Start) where
-  from-arrays : Arrays s.args.from
-  from-arrays = let g = s.well-formed.1.0 in record { order = search rules; lens = search rules; tile = search rules }
+from-arrays : (s : tie.Start) → Arrays s.args.from
+from-arrays s = let g = s.well_formed.1.0 in record { order = search rules; lens = search rules; tile = search rules }
 
-  to-arrays : Arrays s.args.to
-  to-arrays = let g = s.good.1.1.1.0 in record { order = search rules; lens = search rules; tile = search rules }
+to-arrays : (s : tie.Start) → Arrays s.args.to
+to-arrays s = let g = s.well_formed.1.1.1.0 in record { order = search rules; lens = search rules; tile = search rules }
 
-  from-good : Accepted s.args.shape s.args.from
-  from-good = accepted s.args.shape s.args.from (search rules) from-arrays s.requires.0.1
+from-good : (s : tie.Start) → Accepted s.args.shape s.args.from
+from-good s = accepted s.args.shape s.args.from (search rules) (from-arrays s) s.requires.0.1
 
-  to-good : Accepted s.args.shape s.args.to
-  to-good = accepted s.args.shape s.args.to (search rules) to-arrays s.requires.1.0.1
+to-good : (s : tie.Start) → Accepted s.args.shape s.args.to
+to-good s = accepted s.args.shape s.args.to (search rules) (to-arrays s) s.requires.1.0.1
 
-  from-side : Sided s.args.shape s.args.from s.args.a
-  from-side = let g = s.good.1.1.0 in sided s.args.shape s.args.from s.args.a from-good (search rules) (search rules) s.requires.0.0 s.requires.0.1
+from-side : (s : tie.Start) → Sided s.args.shape s.args.from s.args.a
+from-side s = let g = s.well_formed.1.1.0 in sided s.args.shape s.args.from s.args.a (from-good s) (search rules) (search rules) s.requires.0.0 s.requires.0.1
 
-  to-side : Sided s.args.shape s.args.to s.args.b
-  to-side = let g = s.good.1.1.1.1.0 in sided s.args.shape s.args.to s.args.b to-good (search rules) (search rules) s.requires.1.0.0 s.requires.1.0.1
+to-side : (s : tie.Start) → Sided s.args.shape s.args.to s.args.b
+to-side s = let g = s.well_formed.1.1.1.1.0 in sided s.args.shape s.args.to s.args.b (to-good s) (search rules) (search rules) s.requires.1.0.0 s.requires.1.0.1
 
 array-share-prefix-sizes : tie.Need-slice_bounds-sizes-end
-array-share-prefix-sizes c = (from-good (start c)).limits.room
+array-share-prefix-sizes c = (from-good c.before.before.before.before.before.before.before.before.before.before.before).limits.room
 
 slice-aggregate-run : tie.Need-slice_bounds-run-end
-slice-aggregate-run c = sym (from-good (start c.before)).limits.long
+slice-aggregate-run c = sym (from-good c.before.before.before.before.before.before.before.before.before.before.before.before).limits.long
 
 array-share-prefix-p : tie.Need-slice_bounds-p-end
-array-share-prefix-p c = (from-side (start c.before)).order-room
+array-share-prefix-p c = (from-side c.before.before.before.before.before.before.before.before.before.before.before.before).order-room
 
 slice-aggregate-run-2 : tie.Need-slice_bounds-run-end-2
-slice-aggregate-run-2 c = sym (from-side (start c.before.before)).order-long
+slice-aggregate-run-2 c = sym (from-side c.before.before.before.before.before.before.before.before.before.before.before.before.before).order-long
 
 array-share-prefix-plens : tie.Need-slice_bounds-plens-end
-array-share-prefix-plens c = (from-good (start c.before.before)).kept.tile-room
+array-share-prefix-plens c = (from-good c.before.before.before.before.before.before.before.before.before.before.before.before.before).kept.tile-room
 
 slice-aggregate-run-3 : tie.Need-slice_bounds-run-end-3
-slice-aggregate-run-3 c = sym (from-good (start c.before.before.before)).kept.tile-long
+slice-aggregate-run-3 c = sym (from-good c.before.before.before.before.before.before.before.before.before.before.before.before.before.before).kept.tile-long
 
 slice-aggregate-run-4 : tie.Need-slice_bounds-run-end-4
-slice-aggregate-run-4 c = sym (from-arrays (start c.before.before.before.before)).tile
+slice-aggregate-run-4 c = sym (from-arrays c.before.before.before.before.before.before.before.before.before.before.before.before.before.before.before).tile
 
 array-share-prefix-pdims : tie.Need-slice_bounds-pdims-end
-array-share-prefix-pdims c = (from-side (start c.before.before.before.before)).dims-room
+array-share-prefix-pdims c = (from-side c.before.before.before.before.before.before.before.before.before.before.before.before.before.before.before).dims-room
 
 slice-aggregate-run-5 : tie.Need-slice_bounds-run-end-5
-slice-aggregate-run-5 c = sym (from-side (start c.before.before.before.before.before)).dims-long
+slice-aggregate-run-5 c = sym (from-side c.before.before.before.before.before.before.before.before.before.before.before.before.before.before.before.before).dims-long
 
 array-share-prefix-q : tie.Need-slice_bounds-q-end
-array-share-prefix-q c = (to-side (start c.before.before.before.before.before)).order-room
+array-share-prefix-q c = (to-side c.before.before.before.before.before.before.before.before.before.before.before.before.before.before.before.before).order-room
 
 slice-aggregate-run-6 : tie.Need-slice_bounds-run-end-6
-slice-aggregate-run-6 c = sym (to-side (start c.before.before.before.before.before.before)).order-long
+slice-aggregate-run-6 c = sym (to-side c.before.before.before.before.before.before.before.before.before.before.before.before.before.before.before.before.before).order-long
 
 array-share-prefix-qlens : tie.Need-slice_bounds-qlens-end
-array-share-prefix-qlens c = (to-good (start c.before.before.before.before.before.before)).kept.tile-room
+array-share-prefix-qlens c = (to-good c.before.before.before.before.before.before.before.before.before.before.before.before.before.before.before.before.before).kept.tile-room
 
 slice-aggregate-run-7 : tie.Need-slice_bounds-run-end-7
-slice-aggregate-run-7 c = sym (to-good (start c.before.before.before.before.before.before.before)).kept.tile-long
+slice-aggregate-run-7 c = sym (to-good c.before.before.before.before.before.before.before.before.before.before.before.before.before.before.before.before.before.before).kept.tile-long
 
 slice-aggregate-run-8 : tie.Need-slice_bounds-run-end-8
-slice-aggregate-run-8 c = sym (to-arrays (start c.before.before.before.before.before.before.before.before)).tile
+slice-aggregate-run-8 c = sym (to-arrays c.before.before.before.before.before.before.before.before.before.before.before.before.before.before.before.before.before.before.before).tile
 
 array-share-prefix-qdims : tie.Need-slice_bounds-qdims-end
-array-share-prefix-qdims c = (to-side (start c.before.before.before.before.before.before.before.before)).dims-room
+array-share-prefix-qdims c = (to-side c.before.before.before.before.before.before.before.before.before.before.before.before.before.before.before.before.before.before.before).dims-room
 
 slice-aggregate-run-9 : tie.Need-slice_bounds-run-end-9
-slice-aggregate-run-9 c = sym (to-side (start c.before.before.before.before.before.before.before.before.before)).dims-long
+slice-aggregate-run-9 c = sym (to-side c.before.before.before.before.before.before.before.before.before.before.before.before.before.before.before.before.before.before.before.before).dims-long
 
 run-requires : tie.Need-run-requires
 run-requires c κs =
-    let d = c.before.before.before.before.before.before.before.before.before.before.before in
-    let a = (start d).args in (
-      (from-side (start d)).side a.source.now (start d).requires.0.2,
+    let a = c.args in (
+      (from-side c.before.before.before.before.before.before.before.before.before.before.before.before.before.before.before.before.before.before.before.before.before.before).side a.source.now c.requires.0.2,
       (
-        (to-side (start d)).side a.cells.now (start d).requires.1.0.2,
-        subst (λ (q : List ℕ). a.mark.now + a.count ≤ padded (sizes_of a.shape) q (tiles_of a.to)) (sym (to-side (start d)).order) (start d).requires.1.1,
+        (to-side c.before.before.before.before.before.before.before.before.before.before.before.before.before.before.before.before.before.before.before.before.before.before).side a.cells.now c.requires.1.0.2,
+        subst (λ (q : List ℕ). a.mark.now + a.count ≤ padded (sizes_of a.shape) q (tiles_of a.to)) (sym (to-side c.before.before.before.before.before.before.before.before.before.before.before.before.before.before.before.before.before.before.before.before.before.before).order) c.requires.1.1,
       ),
     )
 
@@ -102,13 +96,11 @@ same_length c = search rules
 
 returns : tie.Need-returns
 returns c =
-    let r = c.before.before in
-    let d = r.before.before.before.before.before.before.before.before.before.before.before.before in
-    let a = (start d).args in
+    let a = c.args in
     let left : List ℕ → List ℕ → Memory = λ p q. apply_all (stores (value_in (sizes_of a.shape) p (tiles_of a.from) q (tiles_of a.to) a.source.now) a.mark.now a.count) (memory a.cells.now a.mark.now) in
-    r.run.ensures
-    ∙ ap (λ (p : List ℕ). left p (take a.shape.rank a.b.order)) (from-side (start d)).order
-    ∙ ap (left (order_of a.from)) (to-side (start d)).order
+    c.run.ensures
+    ∙ ap (λ (p : List ℕ). left p (take a.shape.rank a.b.order)) (from-side c.before.before.before.before.before.before.before.before.before.before.before.before.before.before.before.before.before.before.before.before.before.before.before.before.before).order
+    ∙ ap (left (order_of a.from)) (to-side c.before.before.before.before.before.before.before.before.before.before.before.before.before.before.before.before.before.before.before.before.before.before.before.before.before).order
 
 pub settle_in_spec : {M : Type 1} → statement M
 settle_in_spec =

@@ -5,8 +5,6 @@ use mathlib.Core.Path.{refl}
 use mir.Facts.{to_z-of_z}
 use Rattle.compose.proofs.bounds.joined_end.Statement.{statement}
 use Rattle.compose.proofs.bounds.joined_end.Tie as tie
-use Rattle.compose.proofs.bounds.joined_end.Reads as reads
-use Rattle.compose.proofs.bounds.joined_end.Lts as lts
 
 add-if1 : tie.Need-overflow_add-first
 add-if1 c = search rules

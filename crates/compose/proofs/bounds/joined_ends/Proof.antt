@@ -11,9 +11,6 @@ use Rattle.compose.specs.ComposeMap.{end_at}
 use Rattle.encoding.proofs.Listed.{listed-is, entry_next}
 use Rattle.compose.proofs.bounds.joined_ends.Statement.{statement}
 use Rattle.compose.proofs.bounds.joined_ends.Tie as tie
-use Rattle.compose.proofs.bounds.joined_ends.Reads as reads
-use Rattle.compose.proofs.bounds.joined_ends.Lts as lts
-use Rattle.compose.proofs.bounds.joined_end.Reads as joined-end-reads
 
 abbrev invariant-loop : tie.invariant-loop-i
 invariant-loop fs gs first out₀ i₀ out i = (i ≤ max_places) × (length out ≡ max_places) × ((k : ℕ) → k < i → get_or out k (pos 0) ≡ end_at first fs gs k)

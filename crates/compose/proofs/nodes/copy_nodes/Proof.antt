@@ -11,10 +11,6 @@ use Rattle.compose.proofs.Splicing.{copied_none, copied_next}
 use borrow.Author.Rules.{rules, sfits_of}
 use Rattle.compose.proofs.nodes.copy_nodes.Statement.{statement}
 use Rattle.compose.proofs.nodes.copy_nodes.Tie as tie
-use Rattle.compose.proofs.nodes.copy_nodes.Reads as reads
-use Rattle.compose.proofs.nodes.copy_nodes.Lts as lts
-use Rattle.encoding.proofs.write_node.Reads as write-node-reads
-use Rattle.expression.proofs.node_of.Reads as node-of-reads
 
 abbrev invariant-loop : tie.invariant-loop-j
 invariant-loop source held dims ranges from count kinds₀ values₀ at place₀ j₀ kinds values place j =

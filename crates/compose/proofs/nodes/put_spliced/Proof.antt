@@ -4,10 +4,6 @@ use Rattle.compose.proofs.Joined.{result-run}
 use borrow.Author.Rules.{rules}
 use Rattle.compose.proofs.nodes.put_spliced.Statement.{statement}
 use Rattle.compose.proofs.nodes.put_spliced.Tie as tie
-use Rattle.compose.proofs.nodes.put_spliced.Reads as reads
-use Rattle.compose.proofs.nodes.put_spliced.Lts as lts
-use Rattle.compose.proofs.nodes.copy_run.Reads as copy-run-reads
-use Rattle.encoding.proofs.write_node.Reads as write-node-reads
 
 enum-known-node : tie.Need-enum_known-node
 enum-known-node c = search rules

@@ -20,9 +20,6 @@ use Rattle.compose.proofs.Composed.{results-listed}
 use borrow.Author.Rules.{rules}
 use Rattle.compose.proofs.parts.compose_results.Statement.{statement}
 use Rattle.compose.proofs.parts.compose_results.Tie as tie
-use Rattle.compose.proofs.parts.compose_results.Reads as reads
-use Rattle.compose.proofs.parts.compose_results.Lts as lts
-use Rattle.compose.proofs.nodes.splice_run.Reads as splice-run-reads
 
 abbrev tree_of : IndexingMap → IndexingMap → ℕ → Expr
 tree_of f g i = put_into f (expr_at g i)
@@ -33,7 +30,7 @@ invariant-loop f g counts₀ kinds₀ values₀ results at₀ i₀ counts kinds 
     × (length kinds ≡ length kinds₀) × (length values ≡ length values₀)
 
 abbrev decreases-loop : tie.decreases-loop-i
-decreases-loop f g counts₀ kinds₀ values₀ results at₀ i₀ counts kinds values at i = results - i
+decreases-loop f g counts₀ kinds₀ values₀ results at₀ i₀ _ kinds values at i = results - i
 
 few : (s : tie.Start invariant-loop decreases-loop) → Counts s.args.g
 few s = counts s.args.g s.requires.0.both.after
@@ -68,7 +65,7 @@ slice-write-counts c =
     let t = c.before.before.before.before.before.before in
     let l = c.before.before.before.before.before.before.before in
     let s = c.before.before.before.before.before.before.before.before.before.before in
-    omega (arith, (few s).results, t.loop-i-test.true, l.loop-i.invariant.2, ap length s.requires.1.Counts-zero)
+    omega (arith, (few s).results, t.loop-i-test.true, l.loop-i.invariant.2, ap length s.requires.1.counts_zero)
 
 add-i : tie.Need-overflow_add-i invariant-loop decreases-loop
 add-i c = search rules

@@ -10,12 +10,6 @@ use Rattle.compose.proofs.Built.{compose-refused, compose-done}
 use borrow.Author.Rules.{rules}
 use Rattle.compose.proofs.whole.compose.Statement.{statement}
 use Rattle.compose.proofs.whole.compose.Tie as tie
-use Rattle.compose.proofs.whole.compose.Reads as reads
-use Rattle.compose.proofs.whole.compose.Lts as lts
-use Rattle.compose.proofs.whole.compose_formed.Reads as compose-formed-reads
-use Rattle.indexing.proofs.inner.refused_map.Reads as refused-map-reads
-use Rattle.indexing.proofs.inner.good_counts.Reads as good-counts-reads
-use Rattle.indexing.proofs.inner.good_parts.Reads as good-parts-reads
 
 -- the rules that are kept
 first : (c : tie.Else-not-good_parts) → good_parts c.args.f ≡ true

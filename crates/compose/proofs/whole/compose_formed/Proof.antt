@@ -7,11 +7,6 @@ use Rattle.compose.proofs.Built.{many-ranges, many-constraints, many-nodes, map-
 use borrow.Author.Rules.{rules}
 use Rattle.compose.proofs.whole.compose_formed.Statement.{statement}
 use Rattle.compose.proofs.whole.compose_formed.Tie as tie
-use Rattle.compose.proofs.whole.compose_formed.Reads as reads
-use Rattle.compose.proofs.whole.compose_formed.Lts as lts
-use Rattle.compose.proofs.whole.built_map.Reads as built-map-reads
-use Rattle.compose.proofs.whole.judged_ranges.Reads as judged-ranges-reads
-use Rattle.indexing.proofs.inner.refused_map.Reads as refused-map-reads
 
 first-few : (s : tie.Start) → Counts s.args.f
 first-few s = counts s.args.f s.requires.before
@@ -25,7 +20,7 @@ joined c = record { both = c.requires; few = c.if-f-g-gt-MAX_VARIABLES.false }
 add-if1 : tie.Need-overflow_add-f
 add-if1 c =
     let s = c.before.before in
-    record { fits = omega (arith, (first-few s).ranges-2, (then-few s).ranges-2) }
+    record { fits = omega (arith, (first-few s).ranges, (then-few s).ranges) }
 
 refused-requires : tie.Need-refused_map-requires
 refused-requires c κs = search rules

@@ -6,10 +6,6 @@ use Rattle.indexing.specs.Map.{good_ranges}
 use borrow.Author.Rules.{rules}
 use Rattle.compose.proofs.whole.judged_ranges.Statement.{statement}
 use Rattle.compose.proofs.whole.judged_ranges.Tie as tie
-use Rattle.compose.proofs.whole.judged_ranges.Reads as reads
-use Rattle.compose.proofs.whole.judged_ranges.Lts as lts
-use Rattle.indexing.proofs.inner.refused_map.Reads as refused-map-reads
-use Rattle.indexing.proofs.inner.good_ranges.Reads as good-ranges-reads
 
 first : (c : tie.Else-not-good_ranges) → good_ranges c.args.f ≡ true
 first c = sym c.good_ranges.ensures ∙ not-false _ c.if-not-good_ranges.false-raw

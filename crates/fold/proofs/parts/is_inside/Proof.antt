@@ -3,8 +3,6 @@ use mir.Facts.{to_z-of_z}
 use Rattle.fold.proofs.Constraints.{inside-yes, inside-no}
 use Rattle.fold.proofs.parts.is_inside.Statement.{statement}
 use Rattle.fold.proofs.parts.is_inside.Tie as tie
-use Rattle.fold.proofs.parts.is_inside.Reads as reads
-use Rattle.fold.proofs.parts.is_inside.Lts as lts
 
 returns : tie.Need-returns-then-a-lo
 returns c =

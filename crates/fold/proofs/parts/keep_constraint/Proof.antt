@@ -4,8 +4,6 @@ use mathlib.Core.Path.{refl}
 use mir.Facts.{to_z-of_z}
 use Rattle.fold.proofs.parts.keep_constraint.Statement.{statement}
 use Rattle.fold.proofs.parts.keep_constraint.Tie as tie
-use Rattle.fold.proofs.parts.keep_constraint.Reads as reads
-use Rattle.fold.proofs.parts.keep_constraint.Lts as lts
 
 returns : tie.Need-returns-then-gone
 returns c = search rules

@@ -4,9 +4,6 @@ use native.Mathlib.Omega.{arith}
 use Rattle.fold.proofs.Runs.{nodes-most}
 use Rattle.fold.proofs.whole.fold_many.Statement.{statement}
 use Rattle.fold.proofs.whole.fold_many.Tie as tie
-use Rattle.fold.proofs.whole.fold_many.Reads as reads
-use Rattle.fold.proofs.whole.fold_many.Lts as lts
-use Rattle.fold.proofs.whole.fold_in.Reads as fold-in-reads
 
 -- src/whole.rt:165:16
 slice-aggregate-fold-in : tie.Need-slice_bounds-fold_in-end

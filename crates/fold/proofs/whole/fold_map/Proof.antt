@@ -6,11 +6,6 @@ use Rattle.indexing.specs.Answers.{map_answer}
 use Rattle.fold.proofs.Assembled.{folded-done, folded-refused}
 use Rattle.fold.proofs.whole.fold_map.Statement.{statement}
 use Rattle.fold.proofs.whole.fold_map.Tie as tie
-use Rattle.fold.proofs.whole.fold_map.Reads as reads
-use Rattle.fold.proofs.whole.fold_map.Lts as lts
-use Rattle.indexing.proofs.inner.judged.Reads as judged-reads
-use Rattle.fold.proofs.whole.fold_accepted.Reads as fold-accepted-reads
-use Rattle.indexing.proofs.inner.refused_map.Reads as refused-map-reads
 
 judged-requires : tie.Need-judged-requires
 judged-requires c κs = search rules

@@ -2,9 +2,6 @@
 use Rattle.indexing.proofs.Formed.{counts}
 use Rattle.fold.proofs.whole.folded_record.Statement.{statement}
 use Rattle.fold.proofs.whole.folded_record.Tie as tie
-use Rattle.fold.proofs.whole.folded_record.Reads as reads
-use Rattle.fold.proofs.whole.folded_record.Lts as lts
-use Rattle.encoding.proofs.record_of.Reads as record-of-reads
 
 record-of-requires : tie.Need-record_of-requires
 record-of-requires c κs = let s = c.before.before in let w = counts s.args.m s.requires.formed in (w.dims, w.ranges)

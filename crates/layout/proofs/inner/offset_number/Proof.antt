@@ -36,7 +36,7 @@ abbrev start : tie.After-reverse_into → tie.Start
 start c = c.before.before.before.before.before.before.before
 
 abbrev Order : tie.After-reverse_into → List ℕ
-Order c = c.reverse_into.new.1.0
+Order c = c.reverse_into.new.out
 
 array-share-prefix-sizes : tie.Need-slice_bounds-sizes-end
 array-share-prefix-sizes c = (good (start c.before)).limits.room
@@ -45,10 +45,10 @@ slice-aggregate-element-offset : tie.Need-slice_bounds-element_offset-end
 slice-aggregate-element-offset c = sym (good (start c.before.before)).limits.long
 
 array-share-prefix-order : tie.Need-slice_bounds-order-end
-array-share-prefix-order c = let r = c.before.before in (order-room (good (start r)).kept (Order r) r.reverse_into.auto.1.0).0
+array-share-prefix-order c = let r = c.before.before in (order-room (good (start r)).kept (Order r) r.reverse_into.auto.out).0
 
 slice-aggregate-element-offset-2 : tie.Need-slice_bounds-element_offset-end-2
-slice-aggregate-element-offset-2 c = let r = c.before.before.before in sym (order-room (good (start r)).kept (Order r) r.reverse_into.auto.1.0).1
+slice-aggregate-element-offset-2 c = let r = c.before.before.before in sym (order-room (good (start r)).kept (Order r) r.reverse_into.auto.out).1
 
 array-share-prefix-lens : tie.Need-slice_bounds-lens-end
 array-share-prefix-lens c = (good (start c.before.before.before)).kept.tile-room

@@ -1,10 +1,8 @@
 -- `layout::judge::good_parts` meets its contract. Assumes nothing.
 use borrow.Author.Rules.{rules}
 use borrow.Author.Tests.{eq-eqb, ne_eqb, le-leb, lt-leb}
-use mathlib.Core.Path.{◌≡◌, sym, ◌∙◌}
-use Prim.Native.Nat.{◌≤◌}
+use mathlib.Core.Path.{sym, ◌∙◌}
 use native.Mathlib.Omega.{arith}
-use lib.ListN.{length, take}
 use lib.Seq.{length-take-le}
 use Rattle.layout.specs.Layout.{good_layout}
 use Rattle.layout.proofs.judge.good_parts.Statement.{statement}
@@ -22,43 +20,31 @@ returns-3 : tie.Need-returns-then-tiles-gt-MAX_TILES
 unfolding good_layout
 returns-3 c = rw (eq-eqb _ _ c.if-n-rank.false, le-leb _ _ c.if-n-gt-MAX_RANK.false, lt-leb _ _ c.if-tiles-gt-MAX_TILES.true)
 
--- as many tiles as are counted
-tiles : (e : tie.Else-tiles-gt-MAX_TILES) → length (take e.args.tiles e.args.lens.now) ≡ e.args.tiles
-tiles e =
-    let s = e.before.before.before.before.before.before in
-    length-take-le s.args.tiles s.args.lens.now (omega (arith, s.requires.1, e.if-tiles-gt-MAX_TILES.false))
-
 slice-aggregate-is-permutation : tie.Need-slice_bounds-is_permutation-end
 slice-aggregate-is-permutation c =
-    let e = c.before in
-    let s = c.before.before.before.before.before.before.before in
-    sym (length-take-le s.args.n s.args.m.now (omega (arith, s.requires.0, e.if-n-gt-MAX_RANK.false)))
+    sym (length-take-le c.args.n c.args.m.now (omega (arith, c.requires.0, c.if-n-gt-MAX_RANK.false)))
 
 is-permutation-requires : tie.Need-is_permutation-requires
 is-permutation-requires c κs = search rules
 
 slice-aggregate-good-tiles : tie.Need-slice_bounds-good_tiles-end
-slice-aggregate-good-tiles c = sym (tiles c.before.before.before.before)
+slice-aggregate-good-tiles c = sym (length-take-le c.args.tiles c.args.lens.now (omega (arith, c.requires.1, c.if-tiles-gt-MAX_TILES.false)))
 
 good-tiles-requires : tie.Need-good_tiles-requires
 good-tiles-requires c κs =
-    let e = c.before.before.before.before in
-    let s = e.before.before.before.before.before.before in
-    (e.if-n-gt-MAX_RANK.false, omega (arith, tiles e, e.if-tiles-gt-MAX_TILES.false), s.requires.2)
+    let long = length-take-le c.args.tiles c.args.lens.now (omega (arith, c.requires.1, c.if-tiles-gt-MAX_TILES.false)) in
+    (c.if-n-gt-MAX_RANK.false, omega (arith, long, c.if-tiles-gt-MAX_TILES.false), c.requires.2)
 
 returns-4 : tie.Need-returns-then-is_permutation
 unfolding good_layout
 returns-4 c =
-    let t = c.before.before in
-    let e = t.before.before.before in
-    rw (eq-eqb _ _ e.if-n-rank.false, le-leb _ _ e.if-n-gt-MAX_RANK.false, le-leb _ _ e.if-tiles-gt-MAX_TILES.false, sym t.is_permutation.ensures ∙ t.if-is_permutation.true)
+    rw (eq-eqb _ _ c.if-n-rank.false, le-leb _ _ c.if-n-gt-MAX_RANK.false, le-leb _ _ c.if-tiles-gt-MAX_TILES.false, sym c.is_permutation.ensures ∙ c.if-is_permutation.true)
     c.good_tiles.ensures
 
 returns-5 : tie.Need-returns-else-is_permutation
 unfolding good_layout
 returns-5 c =
-    let e = c.before.before.before in
-    rw (eq-eqb _ _ e.if-n-rank.false, le-leb _ _ e.if-n-gt-MAX_RANK.false, le-leb _ _ e.if-tiles-gt-MAX_TILES.false, sym c.is_permutation.ensures ∙ c.if-is_permutation.false)
+    rw (eq-eqb _ _ c.if-n-rank.false, le-leb _ _ c.if-n-gt-MAX_RANK.false, le-leb _ _ c.if-tiles-gt-MAX_TILES.false, sym c.is_permutation.ensures ∙ c.if-is_permutation.false)
 
 pub good_parts_spec : {M : Type 1} → statement M
 good_parts_spec =

@@ -1,6 +1,6 @@
 -- `layout::judge::judge_fit` meets its contract. Assumes nothing.
 use borrow.Author.Rules.{rules}
-use borrow.Author.Tests.{not-true, not-false, le-leb, lt-leb}
+use borrow.Author.Tests.{le-leb, lt-leb}
 use mathlib.Core.Path.{◌≡◌, sym, ◌∙◌}
 use mathlib.Core.Bool.{true}
 use Rattle.shape.specs.Shape.{good_shape}
@@ -11,10 +11,10 @@ good-shape-requires : tie.Need-good_shape-requires
 good-shape-requires c κs = search rules
 
 returns : tie.Need-returns-then-not-good_shape
-returns c = rw (sym c.good_shape.ensures ∙ not-true c.good_shape.result c.if-not-good_shape.true-raw)
+returns c = rw (sym c.good_shape.ensures ∙ c.if-not-good_shape.true)
 
 shape-kept : (c : tie.Else-not-good_shape) → good_shape c.args.shape ≡ true
-shape-kept c = sym c.good_shape.ensures ∙ not-false c.good_shape.result c.if-not-good_shape.false-raw
+shape-kept c = sym c.good_shape.ensures ∙ c.if-not-good_shape.false
 
 returns-2 : tie.Need-returns-then-limit-lt1
 returns-2 c = rw (shape-kept c.before, lt-leb _ _ c.if-limit-lt1.true)

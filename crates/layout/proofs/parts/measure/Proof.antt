@@ -1,6 +1,6 @@
 -- `layout::parts::measure` meets its contract. Assumes nothing.
 use borrow.Author.Rules.{rules}
-use borrow.Author.Tests.{not-true, not-false, le-leb, lt-leb}
+use borrow.Author.Tests.{le-leb, lt-leb}
 use mathlib.Core.Path.{◌≡◌, sym, ap, ◌∙◌, subst}
 use mathlib.Core.Bool.{true}
 use mathlib.Core.List.{List}
@@ -13,7 +13,7 @@ use Rattle.refusal.proofs.Judged.{never_done}
 use Rattle.shape.specs.Shape.{sizes_of, good_shape}
 use Rattle.tiling.specs.Tile.{padded, physical, reversed}
 use Rattle.tiling.specs.Ready.{Shaped}
-use Rattle.layout.specs.Layout.{layout_from, good_layout, lens_of, tiles_of, minor_to_major, order_of, padded_of}
+use Rattle.layout.specs.Layout.{layout_from, good_layout, lens_of, tiles_of, padded_of}
 use Rattle.layout.specs.declared.Layout.{Layout}
 use Rattle.layout.proofs.Accepted.{Arrays, order-held, Good, good_of, shaped_of}
 use Rattle.layout.proofs.parts.measure.Statement.{statement}
@@ -38,11 +38,11 @@ unmeasured-requires c κs = search rules
 returns : tie.Need-returns-then-not-good_shape
 returns c =
     let g = c.before.before in
-    let e = sym g.good_shape.ensures ∙ not-true g.good_shape.result c.if-not-good_shape.true-raw in
+    let e = sym g.good_shape.ensures ∙ c.if-not-good_shape.true in
     (rw e c.unmeasured.ensures, never_done _ _ c.unmeasured.ensures)
 
 shape-kept : (e : tie.Else-not-good_shape) → good_shape (start e.before).args.shape ≡ true
-shape-kept e = sym e.good_shape.ensures ∙ not-false e.good_shape.result e.if-not-good_shape.false-raw
+shape-kept e = sym e.good_shape.ensures ∙ e.if-not-good_shape.false
 
 good-parts-requires : tie.Need-good_parts-requires
 good-parts-requires c κs = let s = start c.before in (s.requires.minor, s.requires.tiles, s.requires.entries)
@@ -53,11 +53,11 @@ unmeasured-requires-2 c κs = search rules
 returns-2 : tie.Need-returns-then-not-good_parts
 returns-2 c =
     let p = c.before.before in
-    let e = sym p.good_parts.ensures ∙ not-true p.good_parts.result c.if-not-good_parts.true-raw in
+    let e = sym p.good_parts.ensures ∙ c.if-not-good_parts.true in
     (rw (shape-kept p.before, e) c.unmeasured-then-not-good_parts.ensures, never_done _ _ c.unmeasured-then-not-good_parts.ensures)
 
 layout-kept : (e : tie.Else-not-good_parts) → good_layout (start e.before.before.before).args.shape.rank (L (start e.before.before.before)) ≡ true
-layout-kept e = sym e.good_parts.ensures ∙ not-false e.good_parts.result e.if-not-good_parts.false-raw
+layout-kept e = sym e.good_parts.ensures ∙ e.if-not-good_parts.false
 
 -- the shape and the layout keep their rules
 good : (e : tie.Else-not-good_parts) → Good (start e.before.before.before).args.shape (L (start e.before.before.before))
@@ -72,14 +72,14 @@ slice-aggregate-lay-out : tie.Need-slice_bounds-lay_out-end
 slice-aggregate-lay-out c = sym (good c.before.before).limits.long
 
 slice-aggregate-lay-out-2 : tie.Need-slice_bounds-lay_out-end-2
-slice-aggregate-lay-out-2 c = sym (good c.before.before.before).kept.long
+slice-aggregate-lay-out-2 c = sym (good c.before.before).kept.long
 
 slice-aggregate-lay-out-3 : tie.Need-slice_bounds-lay_out-end-3
-slice-aggregate-lay-out-3 c = sym (good c.before.before.before.before).kept.tile-long
+slice-aggregate-lay-out-3 c = sym (good c.before.before).kept.tile-long
 
 lay-out-requires : tie.Need-lay_out-extent-requires
 lay-out-requires c κs =
-    let e = c.before.before.before.before.before.before in
+    let e = c.before.before.before.before in
     let s = start e.before.before.before in
     let g = good e in (
       subst (λ (m : List ℕ). Shaped (sizes_of s.args.shape) (reversed m) (lens_of (L s)) s.args.flat.now) (sym g.kept.read) (shaped_of g.limits g.kept),
@@ -96,16 +96,16 @@ same-length-2 : tie.Need-shape_of-dims-then-extent-le-MAX_COUNT
 same-length-2 c = search rules
 
 -- the padded size with its limit
-capped : (o : tie.After-lay_out-extent) → o.lay_out-extent.result.padded ≡ min (padded_of (start o.before.before.before.before.before.before.before.before.before.before).args.shape (L (start o.before.before.before.before.before.before.before.before.before.before))) (max_count + 1)
+capped : (o : tie.After-lay_out-extent) → o.lay_out-extent.result.padded ≡ min (padded_of (start o.before.before.before.before.before.before.before.before).args.shape (L (start o.before.before.before.before.before.before.before.before))) (max_count + 1)
 capped o =
-    let e = o.before.before.before.before.before.before.before in
+    let e = o.before.before.before.before.before in
     let s = start e.before.before.before in
     o.lay_out-extent.ensures.padded ∙ ap (λ (m : List ℕ). min (padded (sizes_of s.args.shape) (reversed m) (tiles_of (L s))) (max_count + 1)) (good e).kept.read
 
 returns-3 : tie.Need-returns-then-extent-le-MAX_COUNT
 returns-3 c =
     let o = c.before.before.before.before.before.before in
-    let e = o.before.before.before.before.before.before.before in
+    let e = o.before.before.before.before.before in
     let s = start e.before.before.before in
     let x = o.lay_out-extent.ensures in
     let k = (good e).kept in
@@ -130,7 +130,7 @@ same-length-4 c = search rules
 returns-4 : tie.Need-returns-else-extent-le-MAX_COUNT
 returns-4 c =
     let o = c.before.before.before.before.before.before.before in
-    let e = o.before.before.before.before.before.before.before in
+    let e = o.before.before.before.before.before in
     (rw (shape-kept e.before.before, layout-kept e, lt-leb _ _ (over-cap _ _ (capped o) c.if-extent-le-MAX_COUNT.false)) c.unmeasured-else-extent-le-MAX_COUNT.ensures, never_done _ _ c.unmeasured-else-extent-le-MAX_COUNT.ensures)
 
 pub measure_spec : {M : Type 1} → statement M

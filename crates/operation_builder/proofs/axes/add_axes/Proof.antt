@@ -13,10 +13,6 @@ use Rattle.operation_builder.proofs.AxisSteps.{axis-grows}
 use borrow.Author.Rules.{rules}
 use Rattle.operation_builder.proofs.axes.add_axes.Statement.{statement}
 use Rattle.operation_builder.proofs.axes.add_axes.Tie as tie
-use Rattle.operation_builder.proofs.axes.add_axes.Reads as reads
-use Rattle.operation_builder.proofs.axes.add_axes.Lts as lts
-use Rattle.operation_builder.proofs.axes.add_axis.Reads as add-axis-reads
-use Rattle.operation_builder.proofs.axes.axis_at.Reads as axis-at-reads
 
 abbrev invariant-loop : tie.invariant-loop-i
 invariant-loop out change sizes a b c x₀ i₀ x i = (i ≤ length sizes) × (x ≡ steps (add_axes out change sizes a b c) i x₀)

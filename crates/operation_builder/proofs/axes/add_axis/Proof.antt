@@ -8,13 +8,6 @@ use Rattle.operation_builder.proofs.AxisSteps.{low_small, pushed-results}
 use borrow.Author.Rules.{rules}
 use Rattle.operation_builder.proofs.axes.add_axis.Statement.{statement}
 use Rattle.operation_builder.proofs.axes.add_axis.Tie as tie
-use Rattle.operation_builder.proofs.axes.add_axis.Reads as reads
-use Rattle.operation_builder.proofs.axes.add_axis.Lts as lts
-use Rattle.operation_builder.proofs.axes.high_of.Reads as high-of-reads
-use Rattle.operation_builder.proofs.axes.low_of.Reads as low-of-reads
-use Rattle.operation_builder.proofs.axes.push_axis.Reads as push-axis-reads
-use Rattle.map_builder.proofs.inner.add_bound.Reads as add-bound-reads
-use Rattle.map_builder.proofs.inner.end_result.Reads as end-result-reads
 
 low-of-requires : tie.Need-low_of-low-requires
 low-of-requires c κs = search rules

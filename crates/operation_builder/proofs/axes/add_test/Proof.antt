@@ -3,17 +3,12 @@ use borrow.Author.Rules.{sfits_of, rules}
 use mathlib.Core.Path.{ap, ◌∙◌}
 use native.Mathlib.Omega.{arith}
 use mir.Facts.{to_z-of_z}
+use mir.Syntax.{w64}
 use lib.IntN.{pos}
 use Rattle.map_builder.specs.Draft.{push_mod, push_shifted, end_constraint}
 use Rattle.map_builder.specs.declared.Draft.{Draft}
 use Rattle.operation_builder.proofs.axes.add_test.Statement.{statement}
 use Rattle.operation_builder.proofs.axes.add_test.Tie as tie
-use Rattle.operation_builder.proofs.axes.add_test.Reads as reads
-use Rattle.operation_builder.proofs.axes.add_test.Lts as lts
-use Rattle.map_builder.proofs.inner.negative.Reads as negative-reads
-use Rattle.map_builder.proofs.inner.push_shifted.Reads as push-shifted-reads
-use Rattle.map_builder.proofs.inner.end_constraint.Reads as end-constraint-reads
-use Rattle.map_builder.proofs.inner.push_mod.Reads as push-mod-reads
 
 enum_told : tie.Need-enum_told-1
 enum_told c = search rules
@@ -73,7 +68,7 @@ returns-4 c =
     rw (k.in-Cut.is, i.if-out.false)
     (c.end_constraint.ensures
     ∙ ap (λ (u : Draft). end_constraint u (pos 0) (pos 0))
-    (e.push_mod-y.ensures ∙ ap (λ (u : Draft). push_mod u k.in-Cut.stride) (m.push_shifted-x.ensures ∙ ap (push_shifted s.args.d s.args.k) (to_z-of_z (sfits_of n.negative.type_inv) ∙ n.negative.ensures))))
+    (e.push_mod-y.ensures ∙ ap (λ (u : Draft). push_mod u k.in-Cut.stride) (m.push_shifted-x.ensures ∙ ap (push_shifted s.args.d s.args.k) (to_z-of_z {w = w64} (sfits_of n.negative.type_inv) ∙ n.negative.ensures))))
 
 enum-told-3 : tie.Need-enum_told-in-Shift
 enum-told-3 c = search rules

@@ -13,10 +13,6 @@ use Rattle.operation_builder.proofs.AxisSteps.{test-grows}
 use borrow.Author.Rules.{rules}
 use Rattle.operation_builder.proofs.axes.add_tests.Statement.{statement}
 use Rattle.operation_builder.proofs.axes.add_tests.Tie as tie
-use Rattle.operation_builder.proofs.axes.add_tests.Reads as reads
-use Rattle.operation_builder.proofs.axes.add_tests.Lts as lts
-use Rattle.operation_builder.proofs.axes.add_test.Reads as add-test-reads
-use Rattle.operation_builder.proofs.axes.axis_at.Reads as axis-at-reads
 
 abbrev invariant-loop : tie.invariant-loop-i
 invariant-loop out change sizes a b c x₀ i₀ x i = (i ≤ length sizes) × (x ≡ steps (add_tests out change sizes a b c) i x₀)

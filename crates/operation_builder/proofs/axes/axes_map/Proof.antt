@@ -11,11 +11,6 @@ use Rattle.operation_builder.proofs.AxisSteps.{axis-grows, axes-leave, axes-made
 use borrow.Author.Rules.{rules}
 use Rattle.operation_builder.proofs.axes.axes_map.Statement.{statement}
 use Rattle.operation_builder.proofs.axes.axes_map.Tie as tie
-use Rattle.operation_builder.proofs.axes.axes_map.Reads as reads
-use Rattle.operation_builder.proofs.axes.axes_map.Lts as lts
-use Rattle.operation_builder.proofs.axes.add_axes.Reads as add-axes-reads
-use Rattle.operation_builder.proofs.axes.add_tests.Reads as add-tests-reads
-use Rattle.map_builder.proofs.inner.empty.Reads as empty-reads
 
 empty-requires : tie.Need-empty-requires
 empty-requires c κs = search rules

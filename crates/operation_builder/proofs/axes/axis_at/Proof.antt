@@ -5,10 +5,6 @@ use Rattle.shape.specs.Dimensions.{place}
 use borrow.Author.Rules.{rules}
 use Rattle.operation_builder.proofs.axes.axis_at.Statement.{statement}
 use Rattle.operation_builder.proofs.axes.axis_at.Tie as tie
-use Rattle.operation_builder.proofs.axes.axis_at.Reads as reads
-use Rattle.operation_builder.proofs.axes.axis_at.Lts as lts
-use Rattle.operation_builder.proofs.axes.entry.Reads as entry-reads
-use Rattle.shape.proofs.place_of.Reads as place-of-reads
 
 enum_told : tie.Need-enum_told-1
 enum_told c = search rules

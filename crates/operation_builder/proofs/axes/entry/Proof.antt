@@ -7,8 +7,6 @@ use native.Mathlib.Omega.{arith}
 use borrow.Author.Rules.{rules}
 use Rattle.operation_builder.proofs.axes.entry.Statement.{statement}
 use Rattle.operation_builder.proofs.axes.entry.Tie as tie
-use Rattle.operation_builder.proofs.axes.entry.Reads as reads
-use Rattle.operation_builder.proofs.axes.entry.Lts as lts
 
 past-zero : (l : List ℕ) (k : ℕ) → length l ≤ k → get_or l k 0 ≡ 0
 past-zero [] k h = refl

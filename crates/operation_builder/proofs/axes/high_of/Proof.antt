@@ -6,8 +6,6 @@ use Rattle.operation_builder.proofs.AxisSteps.{whole-high, turned-high, last-bel
 use borrow.Author.Rules.{rules}
 use Rattle.operation_builder.proofs.axes.high_of.Statement.{statement}
 use Rattle.operation_builder.proofs.axes.high_of.Tie as tie
-use Rattle.operation_builder.proofs.axes.high_of.Reads as reads
-use Rattle.operation_builder.proofs.axes.high_of.Lts as lts
 
 enum-known-axis : tie.Need-enum_known-axis
 enum-known-axis c = search rules

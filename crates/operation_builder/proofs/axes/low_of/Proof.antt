@@ -3,8 +3,6 @@ use Rattle.operation_builder.proofs.AxisSteps.{whole-low, turned-low}
 use borrow.Author.Rules.{rules}
 use Rattle.operation_builder.proofs.axes.low_of.Statement.{statement}
 use Rattle.operation_builder.proofs.axes.low_of.Tie as tie
-use Rattle.operation_builder.proofs.axes.low_of.Reads as reads
-use Rattle.operation_builder.proofs.axes.low_of.Lts as lts
 
 enum_told : tie.Need-enum_told-1
 enum_told c = search rules

@@ -3,19 +3,12 @@ use borrow.Author.Rules.{sfits_of, rules}
 use mathlib.Core.Path.{ap, ap₂, ◌∙◌}
 use native.Mathlib.Omega.{arith}
 use mir.Facts.{to_z-of_z}
+use mir.Syntax.{w64}
 use lib.IntN.{negsuc}
 use Rattle.map_builder.specs.Draft.{push_floordiv, push_shifted, push_affine}
 use Rattle.map_builder.specs.declared.Draft.{Draft}
 use Rattle.operation_builder.proofs.axes.push_axis.Statement.{statement}
 use Rattle.operation_builder.proofs.axes.push_axis.Tie as tie
-use Rattle.operation_builder.proofs.axes.push_axis.Reads as reads
-use Rattle.operation_builder.proofs.axes.push_axis.Lts as lts
-use Rattle.map_builder.proofs.inner.natural.Reads as natural-reads
-use Rattle.map_builder.proofs.inner.negative.Reads as negative-reads
-use Rattle.map_builder.proofs.inner.push_affine.Reads as push-affine-reads
-use Rattle.map_builder.proofs.inner.push_shifted.Reads as push-shifted-reads
-use Rattle.map_builder.proofs.inner.push_variable.Reads as push-variable-reads
-use Rattle.map_builder.proofs.inner.push_floordiv.Reads as push-floordiv-reads
 
 enum_told : tie.Need-enum_told-1
 enum_told c = search rules
@@ -51,7 +44,7 @@ returns-2 c =
     let n = c.before in
     let k = n.before in
     let s = k.before in
-    rw k.in-Flip.is (c.push_affine.ensures ∙ ap (push_affine s.args.d s.args.k (negsuc 0)) (to_z-of_z (sfits_of n.natural.type_inv) ∙ n.natural.ensures))
+    rw k.in-Flip.is (c.push_affine.ensures ∙ ap (push_affine s.args.d s.args.k (negsuc 0)) (to_z-of_z {w = w64} (sfits_of n.natural.type_inv) ∙ n.natural.ensures))
 
 enum-known-axis-2 : tie.Need-enum_known-axis-in-Cut-1
 enum-known-axis-2 c = search rules
@@ -79,7 +72,7 @@ returns-3 c =
     let k = i.before in
     let s = k.before in
     rw (k.in-Cut.is, i.if-out.true)
-    (c.push_affine-then-out.ensures ∙ ap₂ (push_affine s.args.d s.args.k) (to_z-of_z (sfits_of m.natural-then-out.type_inv) ∙ m.natural-then-out.ensures) (to_z-of_z (sfits_of n.natural-then-out-2.type_inv) ∙ n.natural-then-out-2.ensures))
+    (c.push_affine-then-out.ensures ∙ ap₂ (push_affine s.args.d s.args.k) (to_z-of_z {w = w64} (sfits_of m.natural-then-out.type_inv) ∙ m.natural-then-out.ensures) (to_z-of_z {w = w64} (sfits_of n.natural-then-out-2.type_inv) ∙ n.natural-then-out-2.ensures))
 
 negative-requires : tie.Need-negative-requires
 negative-requires c κs =
@@ -110,7 +103,7 @@ returns-4 c =
     let k = i.before in
     let s = k.before in
     rw (k.in-Cut.is, i.if-out.false)
-    (c.push_floordiv.ensures ∙ ap (λ (u : Draft). push_floordiv u k.in-Cut.stride) (m.push_shifted-x.ensures ∙ ap (push_shifted s.args.d s.args.k) (to_z-of_z (sfits_of n.negative.type_inv) ∙ n.negative.ensures)))
+    (c.push_floordiv.ensures ∙ ap (λ (u : Draft). push_floordiv u k.in-Cut.stride) (m.push_shifted-x.ensures ∙ ap (push_shifted s.args.d s.args.k) (to_z-of_z {w = w64} (sfits_of n.negative.type_inv) ∙ n.negative.ensures)))
 
 enum-known-axis-3 : tie.Need-enum_known-axis-in-Shift-1
 enum-known-axis-3 c = search rules
@@ -130,7 +123,7 @@ returns-5 c =
     let i = n.before in
     let k = i.before in
     let s = k.before in
-    rw (k.in-Shift.is, i.if-out-2.true) (c.push_shifted.ensures ∙ ap (push_shifted s.args.d s.args.k) (to_z-of_z (sfits_of n.negative-then-out-2.type_inv) ∙ n.negative-then-out-2.ensures))
+    rw (k.in-Shift.is, i.if-out-2.true) (c.push_shifted.ensures ∙ ap (push_shifted s.args.d s.args.k) (to_z-of_z {w = w64} (sfits_of n.negative-then-out-2.type_inv) ∙ n.negative-then-out-2.ensures))
 
 natural-requires-4 : tie.Need-natural-requires-in-Shift
 natural-requires-4 c κs =
@@ -147,7 +140,7 @@ returns-6 c =
     let i = n.before in
     let k = i.before in
     let s = k.before in
-    rw (k.in-Shift.is, i.if-out-2.false) (c.push_shifted-in-Shift.ensures ∙ ap (push_shifted s.args.d s.args.k) (to_z-of_z (sfits_of n.natural-in-Shift.type_inv) ∙ n.natural-in-Shift.ensures))
+    rw (k.in-Shift.is, i.if-out-2.false) (c.push_shifted-in-Shift.ensures ∙ ap (push_shifted s.args.d s.args.k) (to_z-of_z {w = w64} (sfits_of n.natural-in-Shift.type_inv) ∙ n.natural-in-Shift.ensures))
 
 pub push_axis_spec : {M : Type 1} → statement M
 push_axis_spec =

@@ -4,9 +4,6 @@ use Rattle.shape.proofs.Limits.{Limits, limits}
 use borrow.Author.Rules.{rules}
 use Rattle.operation_builder.proofs.axes.shape_axes.Statement.{statement}
 use Rattle.operation_builder.proofs.axes.shape_axes.Tie as tie
-use Rattle.operation_builder.proofs.axes.shape_axes.Reads as reads
-use Rattle.operation_builder.proofs.axes.shape_axes.Lts as lts
-use Rattle.operation_builder.proofs.axes.axes_map.Reads as axes-map-reads
 
 within : (s : tie.Start) → Limits s.args.shape
 within s = limits s.args.shape (search rules) s.requires.0

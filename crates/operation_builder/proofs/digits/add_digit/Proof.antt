@@ -7,12 +7,6 @@ use Rattle.operation_builder.proofs.ReshapeSteps.{digit-first, digit-next}
 use borrow.Author.Rules.{rules}
 use Rattle.operation_builder.proofs.digits.add_digit.Statement.{statement}
 use Rattle.operation_builder.proofs.digits.add_digit.Tie as tie
-use Rattle.operation_builder.proofs.digits.add_digit.Reads as reads
-use Rattle.operation_builder.proofs.digits.add_digit.Lts as lts
-use Rattle.map_builder.proofs.inner.end_result.Reads as end-result-reads
-use Rattle.map_builder.proofs.inner.push_linear.Reads as push-linear-reads
-use Rattle.map_builder.proofs.inner.push_floordiv.Reads as push-floordiv-reads
-use Rattle.map_builder.proofs.inner.push_mod.Reads as push-mod-reads
 
 push-linear-requires : tie.Need-push_linear-l-requires
 push-linear-requires c κs = search rules

@@ -13,10 +13,6 @@ use Rattle.operation_builder.proofs.ReshapeSteps.{digits-next, digits-end, digit
 use borrow.Author.Rules.{rules}
 use Rattle.operation_builder.proofs.digits.add_digits.Statement.{statement}
 use Rattle.operation_builder.proofs.digits.add_digits.Tie as tie
-use Rattle.operation_builder.proofs.digits.add_digits.Reads as reads
-use Rattle.operation_builder.proofs.digits.add_digits.Lts as lts
-use Rattle.operation_builder.proofs.digits.add_digit.Reads as add-digit-reads
-use Rattle.radix.proofs.product.Reads as product-reads
 
 abbrev invariant-loop : tie.invariant-loop-i
 invariant-loop sizes others out₀ i₀ out i =

@@ -12,11 +12,6 @@ use Rattle.map_builder.specs.declared.Draft.{Draft}
 use Rattle.operation_builder.proofs.ReshapeSteps.{reshape-made}
 use Rattle.operation_builder.proofs.digits.reshape_map.Statement.{statement}
 use Rattle.operation_builder.proofs.digits.reshape_map.Tie as tie
-use Rattle.operation_builder.proofs.digits.reshape_map.Reads as reads
-use Rattle.operation_builder.proofs.digits.reshape_map.Lts as lts
-use Rattle.operation_builder.proofs.digits.add_digits.Reads as add-digits-reads
-use Rattle.map_builder.proofs.inner.add_whole.Reads as add-whole-reads
-use Rattle.map_builder.proofs.inner.empty.Reads as empty-reads
 
 empty-requires : tie.Need-empty-requires
 empty-requires c κs = search rules

@@ -5,9 +5,6 @@ use Rattle.operation_builder.proofs.Ready.{reshape-ready}
 use borrow.Author.Rules.{rules}
 use Rattle.operation_builder.proofs.digits.shape_reshape.Statement.{statement}
 use Rattle.operation_builder.proofs.digits.shape_reshape.Tie as tie
-use Rattle.operation_builder.proofs.digits.shape_reshape.Reads as reads
-use Rattle.operation_builder.proofs.digits.shape_reshape.Lts as lts
-use Rattle.operation_builder.proofs.digits.reshape_map.Reads as reshape-map-reads
 
 within-from : (s : tie.Start) → Limits s.args.from
 within-from s = limits s.args.from (search rules) s.requires.0

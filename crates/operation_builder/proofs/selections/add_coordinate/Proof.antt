@@ -1,19 +1,12 @@
 -- `operation_builder::selections::add_coordinate` meets its contract. Assumes nothing.
 use mathlib.Core.Path.{ap}
 use native.Mathlib.Omega.{arith}
-use Prim.Native.Nat.{◌-◌}
 use Rattle.map_builder.specs.declared.Draft.{Draft}
 use Rattle.map_builder.proofs.Steps.{sized-at}
 use Rattle.operation_builder.proofs.SelectionSteps.{short, coordinate-listed, coordinate-other}
 use borrow.Author.Rules.{rules}
 use Rattle.operation_builder.proofs.selections.add_coordinate.Statement.{statement}
 use Rattle.operation_builder.proofs.selections.add_coordinate.Tie as tie
-use Rattle.operation_builder.proofs.selections.add_coordinate.Reads as reads
-use Rattle.operation_builder.proofs.selections.add_coordinate.Lts as lts
-use Rattle.map_builder.proofs.inner.add_range_to.Reads as add-range-to-reads
-use Rattle.map_builder.proofs.inner.end_result.Reads as end-result-reads
-use Rattle.map_builder.proofs.inner.push_variable.Reads as push-variable-reads
-use Rattle.shape.proofs.place_of.Reads as place-of-reads
 
 place-of-requires : tie.Need-place_of-p-requires
 place-of-requires c κs = search rules

@@ -11,9 +11,6 @@ use Rattle.operation_builder.proofs.SelectionSteps.{coordinate-grows}
 use borrow.Author.Rules.{rules}
 use Rattle.operation_builder.proofs.selections.add_coordinates.Statement.{statement}
 use Rattle.operation_builder.proofs.selections.add_coordinates.Tie as tie
-use Rattle.operation_builder.proofs.selections.add_coordinates.Reads as reads
-use Rattle.operation_builder.proofs.selections.add_coordinates.Lts as lts
-use Rattle.operation_builder.proofs.selections.add_coordinate.Reads as add-coordinate-reads
 
 abbrev invariant-loop : tie.invariant-loop-i
 invariant-loop sizes list out₀ i₀ out i = (i ≤ length sizes) × (out ≡ steps (add_coordinate sizes list) i out₀)

@@ -3,9 +3,6 @@ use Rattle.operation_builder.proofs.SelectionSteps.{keep-listed, keep-other}
 use borrow.Author.Rules.{rules}
 use Rattle.operation_builder.proofs.selections.keep.Statement.{statement}
 use Rattle.operation_builder.proofs.selections.keep.Tie as tie
-use Rattle.operation_builder.proofs.selections.keep.Reads as reads
-use Rattle.operation_builder.proofs.selections.keep.Lts as lts
-use Rattle.shape.proofs.place_of.Reads as place-of-reads
 
 place-of-requires : tie.Need-place_of-requires
 place-of-requires c κs = search rules

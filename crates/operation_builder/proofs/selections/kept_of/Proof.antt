@@ -8,9 +8,6 @@ use Rattle.operation_builder.proofs.SelectionSteps.{none-kept, few-kept, kept_ne
 use borrow.Author.Rules.{rules}
 use Rattle.operation_builder.proofs.selections.kept_of.Statement.{statement}
 use Rattle.operation_builder.proofs.selections.kept_of.Tie as tie
-use Rattle.operation_builder.proofs.selections.kept_of.Reads as reads
-use Rattle.operation_builder.proofs.selections.kept_of.Lts as lts
-use Rattle.operation_builder.proofs.selections.keep.Reads as keep-reads
 
 abbrev invariant-loop : tie.invariant-loop-j
 invariant-loop sizes list out₀ j₀ out j = (j ≤ length sizes) × KeptAs list sizes j out

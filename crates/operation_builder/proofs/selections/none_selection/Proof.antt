@@ -1,7 +1,7 @@
 -- `operation_builder::selections::none_selection` meets its contract. Assumes nothing.
 use mathlib.Core.Path.{sym, ap, ◌∙◌}
 use mathlib.Core.List.{List, []}
-use Prim.Native.Nat.{ℕ, ◌-◌}
+use Prim.Native.Nat.{ℕ}
 use native.Mathlib.Omega.{arith}
 use Rattle.shape.proofs.Limits.{Limits, limits}
 use Rattle.shape.specs.Shape.{sizes_of}
@@ -11,10 +11,6 @@ use Rattle.operation_builder.proofs.Ready.{Front, kept-front, none-chosen}
 use borrow.Author.Rules.{rules}
 use Rattle.operation_builder.proofs.selections.none_selection.Statement.{statement}
 use Rattle.operation_builder.proofs.selections.none_selection.Tie as tie
-use Rattle.operation_builder.proofs.selections.none_selection.Reads as reads
-use Rattle.operation_builder.proofs.selections.none_selection.Lts as lts
-use Rattle.operation_builder.proofs.selections.kept_of.Reads as kept-of-reads
-use Rattle.operation_builder.proofs.selections.selection_map.Reads as selection-map-reads
 
 within : (s : tie.Start) → Limits s.args.shape
 within s = limits s.args.shape (search rules) s.requires

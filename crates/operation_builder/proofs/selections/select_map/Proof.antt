@@ -11,11 +11,6 @@ use Rattle.map_builder.proofs.Steps.{bounds-leave}
 use Rattle.operation_builder.proofs.SelectionSteps.{select-made, short}
 use Rattle.operation_builder.proofs.selections.select_map.Statement.{statement}
 use Rattle.operation_builder.proofs.selections.select_map.Tie as tie
-use Rattle.operation_builder.proofs.selections.select_map.Reads as reads
-use Rattle.operation_builder.proofs.selections.select_map.Lts as lts
-use Rattle.map_builder.proofs.inner.add_variables.Reads as add-variables-reads
-use Rattle.map_builder.proofs.inner.add_whole.Reads as add-whole-reads
-use Rattle.map_builder.proofs.inner.empty.Reads as empty-reads
 
 empty-requires : tie.Need-empty-requires
 empty-requires c κs = search rules

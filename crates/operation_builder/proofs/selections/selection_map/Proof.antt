@@ -6,10 +6,6 @@ use Rattle.operation_builder.specs.Family.{selection}
 use borrow.Author.Rules.{rules}
 use Rattle.operation_builder.proofs.selections.selection_map.Statement.{statement}
 use Rattle.operation_builder.proofs.selections.selection_map.Tie as tie
-use Rattle.operation_builder.proofs.selections.selection_map.Reads as reads
-use Rattle.operation_builder.proofs.selections.selection_map.Lts as lts
-use Rattle.operation_builder.proofs.selections.select_map.Reads as select-map-reads
-use Rattle.operation_builder.proofs.selections.spread_map.Reads as spread-map-reads
 
 spread-map-requires : tie.Need-spread_map-requires
 spread-map-requires c κs = search rules

@@ -5,9 +5,6 @@ use Rattle.operation_builder.proofs.Ready.{chosen-ready}
 use borrow.Author.Rules.{rules}
 use Rattle.operation_builder.proofs.selections.shape_selection.Statement.{statement}
 use Rattle.operation_builder.proofs.selections.shape_selection.Tie as tie
-use Rattle.operation_builder.proofs.selections.shape_selection.Reads as reads
-use Rattle.operation_builder.proofs.selections.shape_selection.Lts as lts
-use Rattle.operation_builder.proofs.selections.selection_map.Reads as selection-map-reads
 
 within : (s : tie.Start) → Limits s.args.shape
 within s = limits s.args.shape (search rules) s.requires.good

@@ -12,11 +12,6 @@ use Rattle.operation_builder.proofs.SelectionSteps.{spread-made, short}
 use borrow.Author.Rules.{rules}
 use Rattle.operation_builder.proofs.selections.spread_map.Statement.{statement}
 use Rattle.operation_builder.proofs.selections.spread_map.Tie as tie
-use Rattle.operation_builder.proofs.selections.spread_map.Reads as reads
-use Rattle.operation_builder.proofs.selections.spread_map.Lts as lts
-use Rattle.operation_builder.proofs.selections.add_coordinates.Reads as add-coordinates-reads
-use Rattle.map_builder.proofs.inner.add_selected.Reads as add-selected-reads
-use Rattle.map_builder.proofs.inner.empty.Reads as empty-reads
 
 empty-requires : tie.Need-empty-requires
 empty-requires c κs = search rules

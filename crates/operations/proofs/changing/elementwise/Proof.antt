@@ -18,49 +18,49 @@ use Rattle.indexing.proofs.inner.refused_map.Reads as refused-map-reads
 abbrev op : tie.Start → Operation
 op s = Operation.elementwise s.args.input
 
-judge-shape-requires : tie.Need-judge-shape-requires
+judge-shape-requires : tie.Need-judge_shape-requires
 judge-shape-requires c κs = search rules
 
-enum_told : tie.Need-enum-told
+enum_told : tie.Need-enum_told-1
 enum_told c = search rules
 
-is-out-requires : tie.Need-is-out-requires
+is-out-requires : tie.Need-is_out-requires
 is-out-requires c κs = search rules
 
-plain-axes-requires : tie.Need-plain-axes-requires
+plain-axes-requires : tie.Need-plain_axes-requires
 plain-axes-requires c κs =
     let t = c.before in
-    let j = t.before.before in
+    let j = t.before in
     let s = j.before in
-    elementwise-good s.args.input (way-ready s.args.way (op s) j.judge-shape.result (ap verdict_answer j.judge-shape.ensures) t.enum_told.given.1)
+    elementwise-good s.args.input (way-ready s.args.way (op s) j.judge_shape.result (ap verdict_answer j.judge_shape.ensures) t.in-Done.is)
 
-fold-map-requires : tie.Need-fold-map-requires
+fold-map-requires : tie.Need-fold_map-requires
 fold-map-requires c κs = search rules
 
-returns : tie.Need-returns
+returns : tie.Need-returns-in-Done
 returns c =
     let m = c.before in
     let o = m.before in
     let t = o.before in
-    let j = t.before.before in
+    let j = t.before in
     let s = j.before in
-    way-done s.args.way (op s) j.judge-shape.result (ap verdict_answer j.judge-shape.ensures) t.enum_told.given.1 m.plain-axes.result c.fold-map.result (m.plain-axes.ensures ∙ elementwise-way s.args.way o.is-out.result o.is-out.ensures s.args.input) c.fold-map.ensures
+    way-done s.args.way (op s) j.judge_shape.result (ap verdict_answer j.judge_shape.ensures) t.in-Done.is m.plain_axes.result c.fold_map.result (m.plain_axes.ensures ∙ elementwise-way s.args.way o.is_out.result o.is_out.ensures s.args.input) c.fold_map.ensures
 
-enum-known-r : tie.Need-enum-known-r
+enum-known-r : tie.Need-enum_known-r
 enum-known-r c = search rules
 
-refused-map-requires : tie.Need-refused-map-requires
+refused-map-requires : tie.Need-refused_map-requires
 refused-map-requires c κs = search rules
 
-returns-2 : tie.Need-returns-2
+returns-2 : tie.Need-returns-in-Refused
 returns-2 c =
-    let r = c.before.before in
-    let j = r.before.before in
+    let r = c.before in
+    let j = r.before in
     let s = j.before in
-    way-refused s.args.way (op s) j.judge-shape.result (ap verdict_answer j.judge-shape.ensures) r.r.given.0.0 r.r.given.1 c.refused-map.result c.refused-map.ensures
+    way-refused s.args.way (op s) j.judge_shape.result (ap verdict_answer j.judge_shape.ensures) r.in-Refused.r r.in-Refused.is c.refused_map.result c.refused_map.ensures
 
-pub elementwise-spec : {M : Type 1} → statement M
-elementwise-spec =
+pub elementwise_spec : {M : Type 1} → statement M
+elementwise_spec =
     tie.close
     (tie.spec
     judge-shape-requires

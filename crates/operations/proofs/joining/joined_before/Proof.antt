@@ -15,10 +15,10 @@ use Rattle.operations.proofs.joining.joined_before.Lts as lts
 use Rattle.operations.proofs.joining.operand_of.Reads as operand-of-reads
 use Rattle.operations.proofs.joining.size_of.Reads as size-of-reads
 
-abbrev invariant-loop : tie.invariant-loop
+abbrev invariant-loop : tie.invariant-loop-k
 invariant-loop x dimension n sum₀ k₀ sum k = (k ≤ n) × (sum ≡ joined_before x.count x.shapes dimension k)
 
-abbrev decreases-loop : tie.decreases-loop
+abbrev decreases-loop : tie.decreases-loop-k
 decreases-loop x dimension n sum₀ k₀ sum k = n - k
 
 eight : (s : tie.Start invariant-loop decreases-loop) → length s.args.x.shapes ≡ max_operands
@@ -28,52 +28,52 @@ none : (x : Operands) (dim : ℕ) → 0 ≡ joined_before x.count x.shapes dim 0
 unfolding joined_before
 none x dim = refl
 
-loop-holds : tie.Need-loop-init invariant-loop decreases-loop
+loop-holds : tie.Need-loop-k-init invariant-loop decreases-loop
 loop-holds c = (omega arith, none c.args.x c.args.dimension)
 
-operand-of-requires : tie.Need-operand-of-requires invariant-loop decreases-loop
+operand-of-requires : tie.Need-operand_of-requires invariant-loop decreases-loop
 operand-of-requires c κs =
     let s = c.before.before in
-    omega (arith, c.loop-test.true, s.requires.inside, s.requires.some.few)
+    omega (arith, c.loop-k-test.true, s.requires.inside, s.requires.some.few)
 
-size-of-requires : tie.Need-size-of-requires invariant-loop decreases-loop
+size-of-requires : tie.Need-size_of-sum-requires invariant-loop decreases-loop
 size-of-requires c κs =
     let t = c.before in
     let s = t.before.before in
-    ap good_shape c.operand-of.ensures ∙ good-at s.args.x (eight s) s.requires.some t.before.loop.k (omega (arith, t.loop-test.true, s.requires.inside))
+    ap good_shape c.operand_of.ensures ∙ good-at s.args.x (eight s) s.requires.some t.loop-k.k (omega (arith, t.loop-k-test.true, s.requires.inside))
 
-add-sum : tie.Need-overflow-add-sum invariant-loop decreases-loop
+add-sum : tie.Need-overflow_add-sum invariant-loop decreases-loop
 add-sum c =
     let o = c.before in
     let t = o.before in
     let l = t.before in
     let s = l.before in
-    let h : l.loop.k < s.args.x.count = omega (arith, t.loop-test.true, s.requires.inside) in
-    search (rules, sum-small s.args.x (eight s) s.requires.some s.args.dimension l.loop.k (omega (arith, h)), l.loop.invariant.1, sum_room s.args.x (eight s) s.requires.some s.args.dimension l.loop.k c.size_of.result o.operand-of.result h o.operand-of.ensures c.size_of.ensures, h, s.requires.some.few)
+    let h : l.loop-k.k < s.args.x.count = omega (arith, t.loop-k-test.true, s.requires.inside) in
+    search (rules, sum-small s.args.x (eight s) s.requires.some s.args.dimension l.loop-k.k (omega (arith, h)), l.loop-k.invariant.1, sum_room s.args.x (eight s) s.requires.some s.args.dimension l.loop-k.k c.size_of-sum.result o.operand_of.result h o.operand_of.ensures c.size_of-sum.ensures, h, s.requires.some.few)
 
-add-k : tie.Need-overflow-add-k invariant-loop decreases-loop
+add-k : tie.Need-overflow_add-k invariant-loop decreases-loop
 add-k c = search rules
 
-loop-less : tie.Need-loop-smaller invariant-loop decreases-loop
+loop-less : tie.Need-loop-k-smaller invariant-loop decreases-loop
 loop-less c = search rules
 
-loop-again : tie.Need-loop-preserved invariant-loop decreases-loop
+loop-again : tie.Need-loop-k-preserved invariant-loop decreases-loop
 loop-again c =
     let o = c.before in
     let t = o.before in
     let l = t.before in
     let s = l.before in
-    (omega (arith, t.loop-test.true), sum-next s.args.x (eight s) s.args.dimension l.loop.k l.loop.sum c.size_of.result o.operand-of.result (omega (arith, t.loop-test.true, s.requires.inside)) l.loop.invariant.1 o.operand-of.ensures c.size_of.ensures)
+    (omega (arith, t.loop-k-test.true), sum-next s.args.x (eight s) s.args.dimension l.loop-k.k l.loop-k.sum c.size_of-sum.result o.operand_of.result (omega (arith, t.loop-k-test.true, s.requires.inside)) l.loop-k.invariant.1 o.operand_of.ensures c.size_of-sum.ensures)
 
 returns : tie.Need-returns invariant-loop decreases-loop
 returns c =
     let l = c.before in
     let s = l.before in
-    let q : l.loop.k ≡ s.args.n = omega (arith, l.loop.invariant.0, c.loop-test.false) in
-    l.loop.invariant.1 ∙ ap (joined_before s.args.x.count s.args.x.shapes s.args.dimension) q
+    let q : l.loop-k.k ≡ s.args.n = omega (arith, l.loop-k.invariant.0, c.loop-k-test.false) in
+    l.loop-k.invariant.1 ∙ ap (joined_before s.args.x.count s.args.x.shapes s.args.dimension) q
 
-pub joined-before-spec : {M : Type 1} → statement M
-joined-before-spec =
+pub joined_before_spec : {M : Type 1} → statement M
+joined_before_spec =
     tie.close
     (tie.spec
     invariant-loop

@@ -19,30 +19,30 @@ use Rattle.operations.proofs.joining.good_result.Reads as good-result-reads
 eight : (s : tie.Start) → length s.args.x.shapes ≡ max_operands
 eight s = search (rules, mapped-long)
 
-good-operands-requires : tie.Need-good-operands-requires
+good-operands-requires : tie.Need-good_operands-requires
 good-operands-requires c κs = search rules
 
-returns : tie.Need-returns
-returns c = rw (sym c.before.good-operands.ensures ∙ not-true c.before.good-operands.result c.if1.true)
+returns : tie.Need-returns-then-not-good_operands
+returns c = rw (sym c.good_operands.ensures ∙ not-true c.good_operands.result c.if-not-good_operands.true-raw)
 
-fine : (e : tie.Else1) → GoodOperands e.before.before.args.x
-fine e = good-operands e.before.before.args.x (eight e.before.before) (sym e.before.good-operands.ensures ∙ not-false e.before.good-operands.result e.if1.false)
+fine : (e : tie.Else-not-good_operands) → GoodOperands e.args.x
+fine e = good-operands e.args.x (eight e.before.before) (sym e.good_operands.ensures ∙ not-false e.good_operands.result e.if-not-good_operands.false-raw)
 
-good-join-requires : tie.Need-good-join-requires
+good-join-requires : tie.Need-good_join-requires
 good-join-requires c κs = fine c
 
-first : (j : tie.After-good-join) → good_operands j.before.before.before.args.x.count j.before.before.before.args.x.shapes ≡ true
-first j = let e = j.before in sym e.before.good-operands.ensures ∙ not-false e.before.good-operands.result e.if1.false
+first : (j : tie.After-good_join) → good_operands j.args.x.count j.args.x.shapes ≡ true
+first j = let e = j.before in sym e.good_operands.ensures ∙ not-false e.good_operands.result e.if-not-good_operands.false-raw
 
-second : (e : tie.Else2) → good_join e.before.before.before.before.args.x.count e.before.before.before.before.args.x.shapes e.before.before.before.before.args.dimension e.before.before.before.before.args.operand ≡ true
-second e = sym e.before.good-join.ensures ∙ not-false e.before.good-join.result e.if2.false
+second : (e : tie.Else-not-good_join) → good_join e.args.x.count e.args.x.shapes e.args.dimension e.args.operand ≡ true
+second e = sym e.good_join.ensures ∙ not-false e.good_join.result e.if-not-good_join.false-raw
 
-returns-2 : tie.Need-returns-2
+returns-2 : tie.Need-returns-then-not-good_join
 returns-2 c =
     let j = c.before in
-    rw (first j, sym j.good-join.ensures ∙ not-true j.good-join.result c.if2.true)
+    rw (first j, sym j.good_join.ensures ∙ not-true j.good_join.result c.if-not-good_join.true-raw)
 
-good-result-requires : tie.Need-good-result-requires
+good-result-requires : tie.Need-good_result-requires
 good-result-requires c κs =
     let j = c.before in
     let s = j.before.before.before in
@@ -50,20 +50,20 @@ good-result-requires c κs =
     let w = join-some x s.args.dimension s.args.operand (fine j.before) (second c) in
     record { some = w.0; inside = omega (arith, w.1.1, ap length (sizes-is x (eight s) 0 w.0.one)) }
 
-returns-3 : tie.Need-returns-3
+returns-3 : tie.Need-returns-then-not-good_result
 returns-3 c =
     let r = c.before in
     let e = r.before in
-    rw (first e.before, second e, sym r.good-result.ensures ∙ not-true r.good-result.result c.if3.true)
+    rw (first e.before, second e, sym r.good_result.ensures ∙ not-true r.good_result.result c.if-not-good_result.true-raw)
 
-returns-4 : tie.Need-returns-4
+returns-4 : tie.Need-returns
 returns-4 c =
     let r = c.before in
     let e = r.before in
-    rw (first e.before, second e, sym r.good-result.ensures ∙ not-false r.good-result.result c.if3.false)
+    rw (first e.before, second e, sym r.good_result.ensures ∙ not-false r.good_result.result c.if-not-good_result.false-raw)
 
-pub judge-concatenate-spec : {M : Type 1} → statement M
-judge-concatenate-spec =
+pub judge_concatenate_spec : {M : Type 1} → statement M
+judge_concatenate_spec =
     tie.close
     (tie.spec
     good-operands-requires

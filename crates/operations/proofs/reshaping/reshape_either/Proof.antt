@@ -10,34 +10,34 @@ use Rattle.operations.proofs.reshaping.reshape_either.Reads as reads
 use Rattle.operations.proofs.reshaping.reshape_either.Lts as lts
 use Rattle.operation_builder.proofs.inner.shape_reshape.Reads as shape-reshape-reads
 
-enum_told : tie.Need-enum-told
+enum_told : tie.Need-enum_told-1
 enum_told c = search rules
 
-shape-reshape-requires : tie.Need-shape-reshape-requires
+shape-reshape-requires : tie.Need-shape_reshape-requires
 shape-reshape-requires c κs =
-    let s = c.before.before in
+    let s = c.before in
     (s.requires.1, s.requires.0)
 
-returns : tie.Need-returns
+returns : tie.Need-returns-in-OutputToInput
 returns c =
     let t = c.before in
-    let s = t.before.before in
-    c.shape-reshape.ensures ∙ ap (λ (w : Way). encoded (raw_of w (Operation.reshape s.args.input s.args.output))) (sym t.enum_told.given.1)
+    let s = t.before in
+    c.shape_reshape.ensures ∙ ap (λ (w : Way). encoded (raw_of w (Operation.reshape s.args.input s.args.output))) (sym t.in-OutputToInput.is)
 
-enum-told-2 : tie.Need-enum-told-2
+enum-told-2 : tie.Need-enum_told-in-InputToOutput
 enum-told-2 c = search rules
 
-shape-reshape-requires-2 : tie.Need-shape-reshape-requires-2
+shape-reshape-requires-2 : tie.Need-shape_reshape-requires-in-InputToOutput
 shape-reshape-requires-2 c κs = search rules
 
-returns-2 : tie.Need-returns-2
+returns-2 : tie.Need-returns-in-InputToOutput
 returns-2 c =
     let t = c.before in
-    let s = t.before.before in
-    c.shape-reshape2.ensures ∙ ap (λ (w : Way). encoded (raw_of w (Operation.reshape s.args.input s.args.output))) (sym t.enum-told2.given.1)
+    let s = t.before in
+    c.shape_reshape-in-InputToOutput.ensures ∙ ap (λ (w : Way). encoded (raw_of w (Operation.reshape s.args.input s.args.output))) (sym t.in-InputToOutput.is)
 
-pub reshape-either-spec : {M : Type 1} → statement M
-reshape-either-spec =
+pub reshape_either_spec : {M : Type 1} → statement M
+reshape_either_spec =
     tie.close
     (tie.spec
     enum_told

@@ -5,16 +5,10 @@ use Rattle.retile.proofs.Reach.{along-single}
 use Rattle.retile.proofs.along.rows_of.Statement.{statement}
 use Rattle.retile.proofs.along.rows_of.Tie as tie
 
--- where the function starts
-abbrev first : tie.After-shared_slice_known-10-1 → tie.Start
-first c = c.before.before.before.before.before.before.before.before.before.before.before.before
-
 along-of-requires : tie.Need-along_of-requires
 along-of-requires c κs =
-    let o = c.before.before.before in
-    let s = first o.before in
-    let t = s.requires.1.1.1 in
-    (s.requires.0, (s.requires.1.0, (s.requires.1.1.0, (o.if-sizes-gt0.true, t.0, t.1, t.2, t.3, t.4))))
+    let t = c.requires.1.1.1 in
+    (c.requires.0, (c.requires.1.0, (c.requires.1.1.0, (c.if-sizes-gt0.true, t.0, t.1, t.2, t.3, t.4))))
 
 same_length : tie.Need-shape_of-ptable-then-count-ge-MANY
 same_length c = search rules
@@ -26,10 +20,10 @@ returns : tie.Need-returns-then-count-ge-MANY
 returns c = c.along_of.ensures
 
 slice-write-ptable : tie.Need-bounds-ptable-0
-slice-write-ptable c = (first c.before).requires.1.1.1.1
+slice-write-ptable c = c.requires.1.1.1.1
 
 slice-write-qtable : tie.Need-bounds-qtable-0
-slice-write-qtable c = (first c.before).requires.1.1.1.3
+slice-write-qtable c = c.requires.1.1.1.3
 
 same-length-3 : tie.Need-shape_of-ptable
 same-length-3 c = search rules
@@ -39,9 +33,8 @@ same-length-4 c = search rules
 
 returns-2 : tie.Need-returns
 returns-2 c =
-    let s = first c.before in
-    let t = s.requires.1.1.1 in
-    along-single s.args.sizes.now s.args.p.now (tiles_from s.args.plens.now s.args.pflat.now) s.args.q.now (tiles_from s.args.qlens.now s.args.qflat.now) s.args.ptable.now s.args.qtable.now t.1 t.3
+    let t = c.requires.1.1.1 in
+    along-single c.args.sizes.now c.args.p.now (tiles_from c.args.plens.now c.args.pflat.now) c.args.q.now (tiles_from c.args.qlens.now c.args.qflat.now) c.args.ptable.now c.args.qtable.now t.1 t.3
 
 pub rows_of_spec : {M : Type 1} → statement M
 rows_of_spec =

@@ -25,9 +25,8 @@ slice-aggregate-rows-of-3 c = search rules
 
 rows-of-requires : tie.Need-rows_of-g-requires
 rows-of-requires c κs =
-    let s = c.before.before.before.before.before.before.before.before.before.before.before.before.before.before in
-    let a = s.requires.0 in
-    let b = s.requires.1.0 in
+    let a = c.requires.0 in
+    let b = c.requires.1.0 in
     (none, ((a.ready, a.same), ((b.ready, b.same), omega arith)))
 
 slice-aggregate-settle-parts : tie.Need-slice_bounds-settle_parts-end
@@ -44,9 +43,7 @@ slice-aggregate-settle-parts-3 c = search rules
 
 settle-parts-requires : tie.Need-settle_parts-requires
 settle-parts-requires c κs =
-    let r = c.before.before.before.before.before.before.before in
-    let s = r.before.before.before.before.before.before.before.before.before.before.before.before.before.before.before in
-    (none, (r.rows_of_lem.ensures, s.requires))
+    (none, (c.rows_of-g.ensures, c.requires))
 
 same_length : tie.Need-shape_of-cells
 same_length c = search rules

@@ -1,6 +1,6 @@
 -- `retile::values::fill_row` meets its contract. The invariant: the first j places of the row are filled. Assumes nothing.
 use borrow.Author.Rules.{rules}
-use mathlib.Core.Path.{◌≡◌, refl, sym, ap, ◌∙◌}
+use mathlib.Core.Path.{◌≡◌, ap, ◌∙◌}
 use mathlib.Core.Logic.{⊎_elim}
 use mathlib.Core.List.{List}
 use Prim.Native.Nat.{ℕ, ◌+◌, ◌-◌, ◌<◌, ◌≤◌}
@@ -23,33 +23,19 @@ invariant-loop source k ptable qtable i values₀ filled₀ j₀ values filled j
 abbrev decreases-loop : tie.decreases-loop-j
 decreases-loop source k ptable qtable i values₀ filled₀ j₀ values filled j = length qtable - j
 
-abbrev Right-in : tie.Start invariant-loop decreases-loop → (ℕ → ℕ) → Type 0
-Right-in s = Ok s.args.source.now s.args.k s.args.ptable.now s.args.qtable.now s.args.i
+-- the place, and the source's
+near : (c : tie.In-loop-j invariant-loop decreases-loop) → (get_or c.args.qtable.now c.loop-j.j 0 ≤ max_count) × (c.args.i < max_count)
+near c = (c.requires.1.1 c.loop-j.j c.loop-j-test.true, c.requires.0.5)
 
--- a step of the row
-module _ (c : tie.In-loop-j invariant-loop decreases-loop) where
-  abbrev l : tie.At-loop-j invariant-loop decreases-loop
-  l = c.before
+read : (c : tie.In-loop-j invariant-loop decreases-loop) → (c.args.k + get_or c.args.ptable.now c.loop-j.j 0 < length c.args.source.now) × (c.args.k + get_or c.args.ptable.now c.loop-j.j 0 < max_count)
+read c = c.requires.1.0 c.loop-j.j (omega (arith, c.loop-j-test.true, c.requires.0.0))
 
-  abbrev s : tie.Start invariant-loop decreases-loop
-  s = l.before
-
-  abbrev j : ℕ
-  j = l.loop-j.j
-
-  -- the place, and the source's
-  near : (get_or s.args.qtable.now j 0 ≤ max_count) × (s.args.i < max_count)
-  near = (s.requires.1.1 j c.loop-j-test.true, s.requires.0.5)
-
-  read : (s.args.k + get_or s.args.ptable.now j 0 < length s.args.source.now) × (s.args.k + get_or s.args.ptable.now j 0 < max_count)
-  read = s.requires.1.0 j (omega (arith, c.loop-j-test.true, s.requires.0.0))
-
-  -- the first place of the row is that of its first coordinate
-  at_first : j ≡ 0 → s.args.i + get_or s.args.qtable.now j 0 ≡ s.args.i
-  at_first e = let z : get_or s.args.qtable.now j 0 ≡ 0 = ap (λ (y : ℕ). get_or s.args.qtable.now y 0) e ∙ s.requires.0.2 in omega (arith, z)
+-- the first place of the row is that of its first coordinate
+at_first : (c : tie.In-loop-j invariant-loop decreases-loop) → c.loop-j.j ≡ 0 → c.args.i + get_or c.args.qtable.now c.loop-j.j 0 ≡ c.args.i
+at_first c e = let z : get_or c.args.qtable.now c.loop-j.j 0 ≡ 0 = ap (λ (y : ℕ). get_or c.args.qtable.now y 0) e ∙ c.requires.0.2 in omega (arith, z)
 
 loop-holds : tie.Need-loop-j-init invariant-loop decreases-loop
-loop-holds c = (omega arith, filled-start (Right-in c) c.args.values.now c.args.filled.now, λ h. absurd (omega (arith, h)))
+loop-holds c = (omega arith, filled-start (Ok c.args.source.now c.args.k c.args.ptable.now c.args.qtable.now c.args.i) c.args.values.now c.args.filled.now, λ h. absurd (omega (arith, h)))
 
 mul-x : tie.Need-offset_bounds-qtable-j invariant-loop decreases-loop
 mul-x c = search rules
@@ -67,15 +53,13 @@ same-length-2 : tie.Need-shape_of-filled-then-values-x invariant-loop decreases-
 same-length-2 c = c.loop-j.invariant.1.wide
 
 returns : tie.Need-returns-then-values-x invariant-loop decreases-loop
-returns c =
-    let i = c.before.before in
-    let a = l i in (
-      a.loop-j.inv.1.right,
-      (
-        a.loop-j.inv.2 (⊎_elim (λ (e : j i ≡ 0). absurd (omega (arith, c.if-values-x.true, at_first i e, (s i).requires.0.3, a.loop-j.inv.1.long))) (λ (h : 0 < j i). h) (eq-zero-or-pos (j i))),
-        a.loop-j.inv.1.stays,
-      ),
-    )
+returns c = (
+  c.loop-j.invariant.1.right,
+  (
+    c.loop-j.invariant.2 (⊎_elim (λ (e : c.loop-j.j ≡ 0). absurd (omega (arith, c.if-values-x.true, at_first c.before.before e, c.requires.0.3, c.loop-j.invariant.1.long))) (λ (h : 0 < c.loop-j.j). h) (eq-zero-or-pos c.loop-j.j)),
+    c.loop-j.invariant.1.stays,
+  ),
+)
 
 mul-o : tie.Need-offset_bounds-ptable-j invariant-loop decreases-loop
 mul-o c = search rules
@@ -109,16 +93,14 @@ loop-less c = omega (arith, c.loop-j-test.true)
 
 loop-again : tie.Need-loop-j-preserved invariant-loop decreases-loop
 loop-again c =
-    let i = c.before.before.before.before in
-    let a = l i in
-    let v = a.loop-j.inv in
-    let x = (s i).args.i + get_or (s i).args.qtable.now (j i) 0 in
-    let inside : x < length a.loop-j.values = c.if-values-x.false in
-    let marked : x < length a.loop-j.filled = omega (arith, inside, (s i).requires.0.4, v.1.long, v.1.wide) in (
-      omega (arith, i.loop-j-test.true),
-      filled_next (Right-in (s i)) (s i).args.values.now (s i).args.filled.now a.loop-j.values a.loop-j.filled v.1 x (get_or (s i).args.source.now ((s i).args.k + get_or (s i).args.ptable.now (j i) 0) 0) inside marked
-          (λ f k. k (j i) i.loop-j-test.true),
-      λ h. filled-first (Right-in (s i)) (s i).args.values.now (s i).args.filled.now a.loop-j.values a.loop-j.filled v.1 x 0 inside marked (s i).args.i (j i) (at_first i) v.2,
+    let v = c.loop-j.invariant in
+    let x = c.args.i + get_or c.args.qtable.now c.loop-j.j 0 in
+    let inside : x < length c.loop-j.values = c.if-values-x.false in
+    let marked : x < length c.loop-j.filled = omega (arith, inside, c.requires.0.4, v.1.long, v.1.wide) in (
+      omega (arith, c.loop-j-test.true),
+      filled_next (Ok c.args.source.now c.args.k c.args.ptable.now c.args.qtable.now c.args.i) c.args.values.now c.args.filled.now c.loop-j.values c.loop-j.filled v.1 x (get_or c.args.source.now (c.args.k + get_or c.args.ptable.now c.loop-j.j 0) 0) inside marked
+          (λ f k. k c.loop-j.j c.loop-j-test.true),
+      λ h. filled-first (Ok c.args.source.now c.args.k c.args.ptable.now c.args.qtable.now c.args.i) c.args.values.now c.args.filled.now c.loop-j.values c.loop-j.filled v.1 x 0 inside marked c.args.i c.loop-j.j (at_first c.before.before.before.before) v.2,
     )
 
 same-length-3 : tie.Need-shape_of-values invariant-loop decreases-loop
@@ -129,8 +111,7 @@ same-length-4 c = c.loop-j.invariant.1.wide
 
 returns-2 : tie.Need-returns invariant-loop decreases-loop
 returns-2 c =
-    let a = c.before in
-    (a.loop-j.invariant.1.right, (a.loop-j.invariant.2 (omega (arith, c.loop-j-test.false, a.requires.0.1)), a.loop-j.invariant.1.stays))
+    (c.loop-j.invariant.1.right, (c.loop-j.invariant.2 (omega (arith, c.loop-j-test.false, c.requires.0.1)), c.loop-j.invariant.1.stays))
 
 pub fill_row_spec : {M : Type 1} → statement M
 fill_row_spec =

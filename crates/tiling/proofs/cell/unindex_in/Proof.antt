@@ -10,7 +10,7 @@ use Rattle.radix.proofs.Tests.{upto-bounded}
 use Rattle.radix.specs.Radix.{Upto}
 use Rattle.tiling.proofs.Undo.{AtUndo, UndoTile, undo-start, undo-tile, undo-next, undo-small}
 use Rattle.tiling.specs.Cell.{untile, unindex, entries}
-use Rattle.tiling.specs.Tile.{max_entries, max_entry, max_physical, tiles_from, tiling}
+use Rattle.tiling.specs.Tile.{max_entries, max_entry, max_physical, tiles_from}
 use Rattle.tiling.proofs.cell.unindex_in.Statement.{statement}
 use Rattle.tiling.proofs.cell.unindex_in.Tie as tie
 
@@ -124,10 +124,10 @@ loop-again c =
     let u = c.before.before in
     let i = u.before.before.before.before in
     let s = start i in
-    let out = u.untile_in.new.0 in
+    let out = u.untile_in.new.at in
     let e = ap (λ (m : ℕ). take (Len i - m) out) (sym (part_length i)) ∙ u.untile_in.ensures ∙ ap (λ (ts : List ℕ). untile ts (Len i - length ts - length ts) (take (Len i) (At i))) (part i)
     ∙ ap (λ (m : ℕ). untile (take (M i) (drop (max_entries * L i) (Flat i))) (Len i - m - m) (take (Len i) (At i))) (tile i).long in
-    undo-next (Lens i) (Flat i) (N i) s.requires.levels s.requires.tiles (Goal i) (At i) (Len i) (L i) (above i) out (u.untile_in.auto.0 ∙ (above i).long) e
+    undo-next (Lens i) (Flat i) (N i) s.requires.levels s.requires.tiles (Goal i) (At i) (Len i) (L i) (above i) out (u.untile_in.auto.at ∙ (above i).long) e
 
 same_length : tie.Need-shape_of-at invariant-loop decreases-loop
 same_length c = c.loop-l.invariant.long ∙ sym c.requires.long

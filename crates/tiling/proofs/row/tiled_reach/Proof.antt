@@ -1,7 +1,6 @@
 -- `tiling::row::tiled_reach` meets its contract. Assumes nothing.
 use borrow.Author.Rules.{rules}
 use mathlib.Core.Path.{sym, ◌∙◌}
-use mathlib.Core.Logic.{⊎_elim}
 use Prim.Native.Nat.{ℕ, ◌-◌, ◌*◌, ◌^◌, ◌<◌, ◌≤◌}
 use native.Mathlib.Nat.{mul-le-mul, mod-lt, min-eq_left, min-eq_right}
 use native.Mathlib.Omega.{arith}
@@ -11,6 +10,7 @@ use Rattle.tiling.proofs.Reaches.{reach-unnamed, reach-quotient, reach-remainder
 use Rattle.tiling.specs.Tile.{max_entry}
 use Rattle.tiling.proofs.row.tiled_reach.Statement.{statement}
 use Rattle.tiling.proofs.row.tiled_reach.Tie as tie
+use Rattle.tiling.proofs.row.tiled_reach.Lts.Came-Joined-left-f.{then-left-f, else-left-f}
 
 sub-k : tie.Need-overflow_sub-k
 sub-k c = search rules
@@ -38,7 +38,7 @@ t c = let s = start c in get_or s.args.ts.now (s.args.f.place - (s.args.n - leng
 
 entry : (c : tie.After-shared_slice_known-3-1) → (0 < t c) × (t c ≤ max_entry)
 unfolding Bounded
-entry c = let s = start c in s.requires.1.1 (s.args.f.place - (s.args.n - length s.args.ts.now)) (omega (arith, s.requires.1.0, (named c).if1.false))
+entry c = let s = start c in s.requires.1.1 (s.args.f.place - (s.args.n - length s.args.ts.now)) (omega (arith, s.requires.1.0, (named c).if-f-k.false))
 
 split-requires : tie.Need-split-d-requires
 split-requires c κs = ((start c).requires.0, entry c)
@@ -55,7 +55,7 @@ returns-2 c =
     let b = c.before.before.before.before in
     let s = start b in
     let d = c.split-d in
-    reach-quotient s.args.ts.now s.args.n s.args.f (named b).if1.false d.result.quotient d.result.remainder d.ensures.0 d.ensures.1 c.if-d-eq0.true
+    reach-quotient s.args.ts.now s.args.n s.args.f (named b).if-f-k.false d.result.quotient d.result.remainder d.ensures.0 d.ensures.1 c.if-d-eq0.true
 
 -- what remains is below the entry
 rest : (c : tie.After-struct_known-4-1) → c.split-d.result.remainder < t c.before.before.before.before
@@ -86,8 +86,8 @@ returns-3 c =
     let s = start b in
     let d = e.split-d in
     let o = s.args.f.scale * (t b - d.result.remainder) in
-    reach-remainder s.args.ts.now s.args.n s.args.f (named b).if1.false d.result.remainder c.if-left-f.most d.ensures.1 e.if-d-eq0.false
-    (⊎_elim (λ h. h.1 ∙ sym (min-eq_right (omega (arith, h.0.taken)))) (λ h. h.1 ∙ sym (min-eq_left h.0.left)) c.if-left-f.branch)
+    reach-remainder s.args.ts.now s.args.n s.args.f (named b).if-f-k.false d.result.remainder c.if-left-f.most d.ensures.1 e.if-d-eq0.false
+    (elim c.if-left-f.branch [ then-left-f w ↦ w.most-is ∙ sym (min-eq_right (omega (arith, w.if-left-f.true))) | else-left-f w ↦ w.most-is ∙ sym (min-eq_left w.if-left-f.false) ])
 
 pub tiled_reach_spec : {M : Type 1} → statement M
 tiled_reach_spec =

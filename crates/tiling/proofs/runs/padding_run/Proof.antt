@@ -11,7 +11,7 @@ use Rattle.tiling.proofs.PaddingRuns.{outside-run, one-run}
 use Rattle.tiling.proofs.Shaped.{shaped-small}
 use Rattle.tiling.specs.Cell.{candidate}
 use Rattle.tiling.specs.Runs.{rest_of, PaddingRun}
-use Rattle.tiling.specs.Tile.{padded, physical, tiles_from, tiling}
+use Rattle.tiling.specs.Tile.{padded, physical, tiles_from}
 use Rattle.tiling.proofs.runs.padding_run.Statement.{statement}
 use Rattle.tiling.proofs.runs.padding_run.Tie as tie
 
@@ -31,14 +31,14 @@ abbrev Tss : tie.Start → List (List ℕ)
 Tss s = tiles_from s.args.lens.now s.args.flat.now
 
 abbrev Point : tie.After-candidate_into → List ℕ
-Point c = take (length (start c).args.sizes.now) c.candidate_into.new.1.1.1.1.1.1.0
+Point c = take (length (start c).args.sizes.now) c.candidate_into.new.out
 
 point-length : (c : tie.After-candidate_into) → length (Point c) ≡ length (start c).args.sizes.now
 unfolding candidate
 point-length c = ap length c.candidate_into.ensures ∙ length-tab _ (length (start c).args.p.now) ∙ (start c).requires.0.shaped.rank
 
 array-share-prefix-point : tie.Need-slice_bounds-point-end
-array-share-prefix-point c = omega (arith, c.candidate_into.auto.1.1.1.1.1.1.0, (start c.before).requires.0.shaped.few)
+array-share-prefix-point c = omega (arith, c.candidate_into.auto.out, (start c.before).requires.0.shaped.few)
 
 slice-aggregate-inside : tie.Need-slice_bounds-inside-end
 slice-aggregate-inside c = sym (point-length c.before.before)

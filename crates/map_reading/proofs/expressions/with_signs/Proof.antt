@@ -3,8 +3,8 @@
 use mathlib.Core.Path.{◌≡◌}
 use borrow.Author.Rules.{rules}
 use lib.ListN.{length}
-use Rattle.map_reading.proofs.expression.with_signs.Statement.{statement}
-use Rattle.map_reading.proofs.expression.with_signs.Tie as tie
+use Rattle.map_reading.proofs.expressions.with_signs.Statement.{statement}
+use Rattle.map_reading.proofs.expressions.with_signs.Tie as tie
 
 abbrev invariant-loop : tie.invariant-loop-depth
 invariant-loop pending kinds₀ values₀ after₀ depth₀ kinds values after depth = (length kinds ≡ length kinds₀) × (length values ≡ length values₀)

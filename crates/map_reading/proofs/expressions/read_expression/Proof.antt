@@ -3,8 +3,8 @@
 use mathlib.Core.Path.{◌≡◌}
 use borrow.Author.Rules.{rules}
 use lib.ListN.{length}
-use Rattle.map_reading.proofs.expression.read_expression.Statement.{statement}
-use Rattle.map_reading.proofs.expression.read_expression.Tie as tie
+use Rattle.map_reading.proofs.expressions.read_expression.Statement.{statement}
+use Rattle.map_reading.proofs.expressions.read_expression.Tie as tie
 
 abbrev invariant-loop : tie.invariant-loop-left
 invariant-loop line place pending₀ kinds₀ values₀ e₀ left₀ pending kinds values e left = (length pending ≡ length pending₀) × (length kinds ≡ length kinds₀) × (length values ≡ length values₀)
