@@ -8,6 +8,8 @@ use reading::{
 use refusal::Verdict;
 use route::{Route, Station};
 use shape::Shape;
+use std::io;
+use std::io::Write;
 use writing::{error, labelled, refused, spaced, text};
 
 // A station as the line has it: its count, and the first 8 layouts.
@@ -168,14 +170,11 @@ fn places_of(places: &[usize], number: usize) -> &[usize] {
 }
 
 // Each place behind a space.
-fn put_places(out: &mut [u8], at: usize, places: &[usize]) -> usize {
-    let mut next = at;
-    let mut i = 0;
-    while i < places.len() {
-        next = spaced(out, next, widened(places[i]));
-        i += 1;
+fn put_places<W: Write>(out: &mut W, places: &[usize]) -> io::Result<()> {
+    for place in places {
+        spaced(out, widened(*place))?;
     }
-    next
+    Ok(())
 }
 
 fn widened(place: usize) -> u64 {
@@ -183,24 +182,24 @@ fn widened(place: usize) -> u64 {
 }
 
 // The places of a plan and its total.
-fn plan(answer: Route, number: usize, out: &mut [u8], at: usize) -> usize {
+fn plan<W: Write>(answer: Route, number: usize, out: &mut W) -> io::Result<()> {
     let places = answer.places;
-    let next = text(out, at, b"plan");
-    let next = put_places(out, next, places_of(&places, number));
-    labelled(out, next, b" total ", answer.total)
+    text(out, b"plan")?;
+    put_places(out, places_of(&places, number))?;
+    labelled(out, b" total ", answer.total)
 }
 
 // The answer to a route through stations in a row whose arguments start at a cursor.
-pub fn answer_route(line: &[u8], from: Cursor, out: &mut [u8], at: usize) -> usize {
-    answer_stations(line, from, false, out, at)
+pub fn answer_route<W: Write>(line: &[u8], from: Cursor, out: &mut W) -> io::Result<()> {
+    answer_stations(line, from, false, out)
 }
 
 // The same for a tree.
-pub fn answer_tree(line: &[u8], from: Cursor, out: &mut [u8], at: usize) -> usize {
-    answer_stations(line, from, true, out, at)
+pub fn answer_tree<W: Write>(line: &[u8], from: Cursor, out: &mut W) -> io::Result<()> {
+    answer_stations(line, from, true, out)
 }
 
-fn answer_stations(line: &[u8], from: Cursor, tree: bool, out: &mut [u8], at: usize) -> usize {
+fn answer_stations<W: Write>(line: &[u8], from: Cursor, tree: bool, out: &mut W) -> io::Result<()> {
     let limits = read_limits(line, from);
     let shape = limits.shape;
     let read = read_stations(line, limits.next, tree);
@@ -208,7 +207,7 @@ fn answer_stations(line: &[u8], from: Cursor, tree: bool, out: &mut [u8], at: us
     let number = read.number;
     let end = finish(line, read.next);
     if !end.ok {
-        return error(out, at, end.at);
+        return error(out, end.at);
     }
     let answer = route::best_route_of(
         shape,
@@ -220,7 +219,7 @@ fn answer_stations(line: &[u8], from: Cursor, tree: bool, out: &mut [u8], at: us
     );
     let verdict = answer.verdict;
     match verdict {
-        Verdict::Done => plan(answer, number, out, at),
-        Verdict::Refused(r) => refused(out, at, r),
+        Verdict::Done => plan(answer, number, out),
+        Verdict::Refused(r) => refused(out, r),
     }
 }

@@ -1,7 +1,7 @@
 -- Numbers kept within 2^62 and their sums, term by term. Assumes nothing.
 use mathlib.Core.Path.{◌≡◌, refl, ap}
 use mathlib.Core.Bool.{Bool, true, false, cond}
-use Prim.Native.Nat.{ℕ, zero, suc, ◌<◌, ◌≤◌, ◌^◌}
+use Prim.Native.Nat.{ℕ, zero, suc, ◌<◌, ◌≤◌}
 use lib.IntN.{ℤ, pos, negsuc, nat_abs, ◌*ℤ◌}
 use native.Mathlib.Omega.{arith}
 use Rattle.folding.specs.Fold.{scale_sum, cons_term}

@@ -5,7 +5,7 @@ use mathlib.Core.List.{List, [], ◌∷◌, ◌++◌, append_assoc}
 use Prim.Native.Nat.{ℕ, ◌+◌, ◌*◌, ◌≤◌}
 use native.Mathlib.Omega.{arith}
 use borrow.Author.Tests.{eq-eqb, ne_eqb}
-use lib.IntN.{ℤ, pos, negsuc, ◌+ℤ◌, +ℤ_idl}
+use lib.IntN.{ℤ, pos, negsuc, +ℤ_idl}
 use lib.ListN.{length, drop}
 use Rattle.folding.specs.Sum.{Sum, term_count, sum_range, sum_size}
 use Rattle.folding.specs.Working.{small_sum}

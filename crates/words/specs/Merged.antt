@@ -1,6 +1,6 @@
 -- Two folded sums merged, the smaller atom first. Assumes nothing.
 use Rattle.std.specs.Prelude.{◌≡◌, ℤ, pos, ◌+ℤ◌, ◌*ℤ◌, ◌≢◌}
-use Prim.Native.Nat.{zero, Ordering, ◌*◌}
+use Prim.Native.Nat.{Ordering}
 use Rattle.folding.specs.Sum.{Atom, Sum, atom_order}
 use Rattle.folding.specs.Fold.{cons_term}
 use Rattle.words.specs.Saturated.{saturate, shifted}

@@ -1,5 +1,5 @@
 -- Numbers kept where they are within 2^62, and sums of such numbers. Assumes nothing.
-use Rattle.std.specs.Prelude.{cond, ◌+◌, ◌^◌, ℤ, pos, ◌+ℤ◌}
+use Rattle.std.specs.Prelude.{cond, ℤ, pos, ◌+ℤ◌}
 use Rattle.folding.specs.Fold.{scale_sum}
 use Rattle.folding.specs.Sum.{Sum}
 use Rattle.expression.specs.Expression.{is_small}

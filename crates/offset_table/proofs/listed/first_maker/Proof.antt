@@ -17,7 +17,7 @@ invariant-loop shape table padded count layouts i₀ i = (i ≤ count) × ((k : 
 abbrev decreases-loop : tie.decreases-loop-i
 decreases-loop shape table padded count layouts i₀ i = count - i
 
-given : (s : tie.Start invariant-loop decreases-loop) → Asked s.args.shape s.args.table.now s.args.t4 s.args.count
+given : (s : tie.Start invariant-loop decreases-loop) → Asked s.args.shape s.args.table.now s.args.layouts s.args.count
 given s = asked _ _ s.args.padded _ _ s.requires
 
 loop-holds : tie.Need-loop-i-init invariant-loop decreases-loop
@@ -55,7 +55,7 @@ unfolding first_maker
 returns-2 c =
     let a = c.args in
     let e : c.loop-i.i ≡ a.count = omega (arith, c.loop-i-test.false) in
-    e ∙ sym (first-none (λ (k : ℕ). is_maker a.shape a.table.now a.padded (layout_at a.t4 k)) a.count (λ k h. c.loop-i.invariant.1 k (omega (arith, c.loop-i-test.false))))
+    e ∙ sym (first-none (λ (k : ℕ). is_maker a.shape a.table.now a.padded (layout_at a.layouts k)) a.count (λ k h. c.loop-i.invariant.1 k (omega (arith, c.loop-i-test.false))))
 
 pub first_maker_spec : {M : Type 1} → statement M
 first_maker_spec =

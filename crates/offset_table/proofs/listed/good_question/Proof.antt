@@ -1,6 +1,6 @@
 -- `offset_table::listed::good_question` meets its contract. Assumes nothing.
 use borrow.Author.Rules.{rules}
-use borrow.Author.Tests.{not-true, not-false, le-leb, lt-leb}
+use borrow.Author.Tests.{le-leb, lt-leb}
 use mathlib.Core.Path.{◌≡◌, sym, ◌∙◌}
 use mathlib.Core.Bool.{true}
 use Rattle.offset_table.specs.Answers.{is_table, good_question}
@@ -12,10 +12,10 @@ is-table-requires c κs = search rules
 
 returns : tie.Need-returns-then-not-is_table
 unfolding good_question
-returns c = rw (sym c.is_table.ensures ∙ not-true c.is_table.result c.if-not-is_table.true-raw)
+returns c = rw (sym c.is_table.ensures ∙ c.if-not-is_table.true)
 
 table_kept : (c : tie.Else-not-is_table) → is_table c.args.shape c.args.table.now ≡ true
-table_kept c = sym c.is_table.ensures ∙ not-false c.is_table.result c.if-not-is_table.false-raw
+table_kept c = sym c.is_table.ensures ∙ c.if-not-is_table.false
 
 returns-2 : tie.Need-returns-then-count-lt1
 unfolding good_question

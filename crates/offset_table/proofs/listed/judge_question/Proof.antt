@@ -1,6 +1,6 @@
 -- `offset_table::listed::judge_question` meets its contract. Assumes nothing.
 use borrow.Author.Rules.{rules}
-use borrow.Author.Tests.{not-true, not-false, le-leb, lt-leb}
+use borrow.Author.Tests.{le-leb, lt-leb}
 use mathlib.Core.Path.{◌≡◌, sym, ◌∙◌}
 use mathlib.Core.Bool.{true}
 use Rattle.shape.specs.Shape.{good_shape}
@@ -13,22 +13,22 @@ good-shape-requires : tie.Need-good_shape-requires
 good-shape-requires c κs = search rules
 
 returns : tie.Need-returns-then-not-good_shape
-returns c = rw (sym c.good_shape.ensures ∙ not-true c.good_shape.result c.if-not-good_shape.true-raw)
+returns c = rw (sym c.good_shape.ensures ∙ c.if-not-good_shape.true)
 
 shape-kept : (c : tie.Else-not-good_shape) → good_shape c.args.shape ≡ true
-shape-kept c = sym c.good_shape.ensures ∙ not-false c.good_shape.result c.if-not-good_shape.false-raw
+shape-kept c = sym c.good_shape.ensures ∙ c.if-not-good_shape.false
 
 good-question-requires : tie.Need-good_question-requires
 good-question-requires c κs = shape-kept c
 
 returns-2 : tie.Need-returns-then-not-good_question
-returns-2 c = rw (shape-kept c.before.before, sym c.good_question.ensures ∙ not-true c.good_question.result c.if-not-good_question.true-raw)
+returns-2 c = rw (shape-kept c.before.before, sym c.good_question.ensures ∙ c.if-not-good_question.true)
 
 abbrev start : tie.Else-not-good_question → tie.Start
 start c = c.before.before.before.before.before
 
 asks : (c : tie.Else-not-good_question) → good_question (start c).args.shape (start c).args.table.now (start c).args.padded (start c).args.count ≡ true
-asks c = sym c.good_question.ensures ∙ not-false c.good_question.result c.if-not-good_question.false-raw
+asks c = sym c.good_question.ensures ∙ c.if-not-good_question.false
 
 layouts-kept-requires : tie.Need-layouts_kept-requires
 layouts-kept-requires c κs = question-few _ _ _ _ (asks c)
@@ -36,10 +36,10 @@ layouts-kept-requires c κs = question-few _ _ _ _ (asks c)
 returns-3 : tie.Need-returns-then-not-layouts_kept
 returns-3 c =
     let q = c.before.before in
-    rw (shape-kept q.before.before, asks q, sym c.layouts_kept.ensures ∙ not-true c.layouts_kept.result c.if-not-layouts_kept.true-raw)
+    rw (shape-kept q.before.before, asks q, sym c.layouts_kept.ensures ∙ c.if-not-layouts_kept.true)
 
 layouts-good : (c : tie.Else-not-layouts_kept) → layouts_kept (start c.before.before).args.shape (start c.before.before).args.layouts (start c.before.before).args.count ≡ true
-layouts-good c = sym c.layouts_kept.ensures ∙ not-false c.layouts_kept.result c.if-not-layouts_kept.false-raw
+layouts-good c = sym c.layouts_kept.ensures ∙ c.if-not-layouts_kept.false
 
 returns-4 : tie.Need-returns-then-padded-gt-MAX_COUNT
 returns-4 c =

@@ -49,7 +49,7 @@ returns-2 : tie.Need-returns invariant-loop decreases-loop
 unfolding layouts_kept
 returns-2 c =
     let a = c.args in
-    sym (every-all (λ (k : ℕ). good_layout a.shape.rank (layout_at a.t2 k)) a.count (λ k h. c.loop-i.invariant.1 k (omega (arith, c.loop-i-test.false))))
+    sym (every-all (λ (k : ℕ). good_layout a.shape.rank (layout_at a.layouts k)) a.count (λ k h. c.loop-i.invariant.1 k (omega (arith, c.loop-i-test.false))))
 
 pub layouts_kept_spec : {M : Type 1} → statement M
 layouts_kept_spec =

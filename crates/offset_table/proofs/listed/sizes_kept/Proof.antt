@@ -56,7 +56,7 @@ returns-2 : tie.Need-returns invariant-loop decreases-loop
 unfolding sizes_kept
 returns-2 c =
     let a = c.args in
-    sym (every-all (λ (k : ℕ). leb (padded_of a.shape (layout_at a.t2 k)) max_count) a.count (λ k h. c.loop-i.invariant.1 k (omega (arith, c.loop-i-test.false))))
+    sym (every-all (λ (k : ℕ). leb (padded_of a.shape (layout_at a.layouts k)) max_count) a.count (λ k h. c.loop-i.invariant.1 k (omega (arith, c.loop-i-test.false))))
 
 pub sizes_kept_spec : {M : Type 1} → statement M
 sizes_kept_spec =

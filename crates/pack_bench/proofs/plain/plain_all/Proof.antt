@@ -31,48 +31,39 @@ slice-aggregate-reverse-into-2 c = search rules
 reverse-into-requires : tie.Need-reverse_into-requires
 reverse-into-requires c κs = let k = (good c.before.before.before.before.before.before.before.before.before).kept in omega (arith, k.long, k.few)
 
--- where the function starts, and the order that is read
-abbrev start : tie.After-reverse_into → tie.Start
-start c = c.before.before.before.before.before.before.before.before.before.before
-
-abbrev Order : tie.After-reverse_into → List ℕ
-Order c = c.reverse_into.new.1.0
-
 array-share-prefix-sizes : tie.Need-slice_bounds-sizes-end
-array-share-prefix-sizes c = (good (start c.before)).limits.room
+array-share-prefix-sizes c = (good c.before.before.before.before.before.before.before.before.before.before.before).limits.room
 
 slice-aggregate-plain-in : tie.Need-slice_bounds-plain_in-end
-slice-aggregate-plain-in c = sym (good (start c.before.before)).limits.long
+slice-aggregate-plain-in c = sym (good c.before.before.before.before.before.before.before.before.before.before.before.before).limits.long
 
 array-share-prefix-order : tie.Need-slice_bounds-order-end
-array-share-prefix-order c = let r = c.before.before in (order-room (good (start r)).kept (Order r) r.reverse_into.auto.1.0).0
+array-share-prefix-order c = (order-room (good c.before.before.before.before.before.before.before.before.before.before.before.before).kept c.reverse_into.new.out c.reverse_into.auto.out).0
 
 slice-aggregate-plain-in-2 : tie.Need-slice_bounds-plain_in-end-2
-slice-aggregate-plain-in-2 c = let r = c.before.before.before in sym (order-room (good (start r)).kept (Order r) r.reverse_into.auto.1.0).1
+slice-aggregate-plain-in-2 c = sym (order-room (good c.before.before.before.before.before.before.before.before.before.before.before.before.before).kept c.reverse_into.new.out c.reverse_into.auto.out).1
 
 array-share-prefix-lens : tie.Need-slice_bounds-lens-end
-array-share-prefix-lens c = (good (start c.before.before.before)).kept.tile-room
+array-share-prefix-lens c = (good c.before.before.before.before.before.before.before.before.before.before.before.before.before).kept.tile-room
 
 slice-aggregate-plain-in-3 : tie.Need-slice_bounds-plain_in-end-3
-slice-aggregate-plain-in-3 c = sym (good (start c.before.before.before.before)).kept.tile-long
+slice-aggregate-plain-in-3 c = sym (good c.before.before.before.before.before.before.before.before.before.before.before.before.before.before).kept.tile-long
 
 slice-aggregate-plain-in-4 : tie.Need-slice_bounds-plain_in-end-4
 slice-aggregate-plain-in-4 c = search rules
 
 -- the order that is read is the layout's
-held : (r : tie.After-reverse_into) → take (start r).args.shape.rank (Order r) ≡ order_of (start r).args.layout
-held r = order-held (good (start r)).kept (Order r) r.reverse_into.ensures
+held : (r : tie.After-reverse_into) → take r.args.shape.rank r.reverse_into.new.out ≡ order_of r.args.layout
+held r = order-held (good r.before.before.before.before.before.before.before.before.before.before).kept r.reverse_into.new.out r.reverse_into.ensures
 
 plain-in-requires : tie.Need-plain_in-requires
-plain-in-requires c κs =
-    let r = c.before.before.before.before.before.before in
-    let s = start r in (
-      s.requires.0,
-      (
-        subst (λ (p : List ℕ). Ready (sizes_of s.args.shape) p (lens_of s.args.layout) s.args.layout.tile) (sym (held r)) (good s).ready,
-        (s.requires.1.1, subst (λ (p : List ℕ). padded (sizes_of s.args.shape) p (tiles_of s.args.layout) ≤ length s.args.cells.now) (sym (held r)) s.requires.1.2),
-      ),
-    )
+plain-in-requires c κs = (
+  c.requires.0,
+  (
+    subst (λ (p : List ℕ). Ready (sizes_of c.args.shape) p (lens_of c.args.layout) c.args.layout.tile) (sym (held c.before.before.before.before.before.before)) (good c.before.before.before.before.before.before.before.before.before.before.before.before.before.before.before.before).ready,
+    (c.requires.1.1, subst (λ (p : List ℕ). padded (sizes_of c.args.shape) p (tiles_of c.args.layout) ≤ length c.args.cells.now) (sym (held c.before.before.before.before.before.before)) c.requires.1.2),
+  ),
+)
 
 same_length : tie.Need-shape_of-cells
 same_length c = search rules

@@ -3,6 +3,7 @@ use borrow.Author.Rules.{rules, sfits_of}
 use Rattle.words.proofs.Fits.{parts-fit}
 use lib.IntN.{pos, negsuc, ◌+ℤ◌}
 use mir.Facts.{to_z-of_z}
+use mir.Syntax.{w64}
 use Rattle.integer.proofs.Linear.{lin, add_parts, diff-parts, abs-parts, fits_by}
 use Rattle.words.proofs.Saturated.{sat-out}
 use mathlib.Core.Path.{sym, ◌∙◌}
@@ -50,7 +51,7 @@ returns c = let s = c.before.before in
 
 returns-2 : tie.Need-returns-else-a-b
 returns-2 c = let s = c.before.before.before in
-    to_z-of_z (sfits_of c.saturated.type_inv) ∙ (rw (to_z-of_z (add-saturated c.before), to_z-of_z s.ranges.a, to_z-of_z s.ranges.b) at c.saturated.ensures)
+    to_z-of_z {w = w64} (sfits_of c.saturated.type_inv) ∙ (rw (to_z-of_z (add-saturated c.before), to_z-of_z s.ranges.a, to_z-of_z s.ranges.b) at c.saturated.ensures)
 
 returns-3 : tie.Need-returns-then-b-a
 returns-3 c = let s = c.before.before in
@@ -60,7 +61,7 @@ returns-3 c = let s = c.before.before in
 
 returns-4 : tie.Need-returns-else-b-a
 returns-4 c = let s = c.before.before.before in
-    to_z-of_z (sfits_of c.saturated-else-b-a.type_inv) ∙ (rw (to_z-of_z (add-saturated-2 c.before), to_z-of_z s.ranges.a, to_z-of_z s.ranges.b) at c.saturated-else-b-a.ensures)
+    to_z-of_z {w = w64} (sfits_of c.saturated-else-b-a.type_inv) ∙ (rw (to_z-of_z (add-saturated-2 c.before), to_z-of_z s.ranges.a, to_z-of_z s.ranges.b) at c.saturated-else-b-a.ensures)
 
 pub add_spec : {M : Type 1} → statement M
 add_spec =

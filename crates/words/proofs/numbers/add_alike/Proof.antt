@@ -4,6 +4,7 @@ use mathlib.Core.Path.{sym, ap, ◌∙◌}
 use native.Mathlib.Omega.{arith}
 use lib.IntN.{nat_abs, ◌+ℤ◌}
 use mir.Facts.{to_z-of_z}
+use mir.Syntax.{w64}
 use Rattle.integer.specs.Exact.{sign_of}
 use Rattle.words.specs.Saturated.{saturate}
 use Rattle.words.proofs.Saturated.{sat-out}
@@ -26,7 +27,7 @@ with-magnitude-requires : tie.Need-with_magnitude-requires
 with-magnitude-requires c κs = search rules
 
 returns-3 : tie.Need-returns
-returns-3 c = let s = c.before.before.before in to_z-of_z (sfits_of c.with_magnitude.type_inv) ∙ c.with_magnitude.ensures ∙ ap saturate (one-sign s.args.neg s.args.m s.args.f)
+returns-3 c = let s = c.before.before.before in to_z-of_z {w = w64} (sfits_of c.with_magnitude.type_inv) ∙ c.with_magnitude.ensures ∙ ap saturate (one-sign s.args.neg s.args.m s.args.f)
 
 pub add_alike_spec : {M : Type 1} → statement M
 add_alike_spec = tie.close (tie.spec returns returns-2 add-with-magnitude with-magnitude-requires returns-3)

@@ -2,6 +2,7 @@
 use borrow.Author.Rules.{sfits_of}
 use mathlib.Core.Path.{ap, ◌∙◌}
 use mir.Facts.{to_z-of_z}
+use mir.Syntax.{w64}
 use Rattle.words.specs.Saturated.{saturate}
 use Rattle.words.proofs.Signs.{first-larger, second-larger}
 use borrow.Author.Rules.{rules}
@@ -12,7 +13,7 @@ with-magnitude-requires : tie.Need-with_magnitude-requires
 with-magnitude-requires c κs = search rules
 
 returns : tie.Need-returns-then-f-m
-returns c = let s = c.before.before in to_z-of_z (sfits_of c.with_magnitude.type_inv) ∙ c.with_magnitude.ensures ∙ ap saturate (first-larger s.args.neg s.args.m s.args.f c.if-f-m.true)
+returns c = let s = c.before.before in to_z-of_z {w = w64} (sfits_of c.with_magnitude.type_inv) ∙ c.with_magnitude.ensures ∙ ap saturate (first-larger s.args.neg s.args.m s.args.f c.if-f-m.true)
 
 sub-with-magnitude : tie.Need-overflow_sub-f
 sub-with-magnitude c = search rules
@@ -21,7 +22,7 @@ with-magnitude-requires-2 : tie.Need-with_magnitude-requires-2
 with-magnitude-requires-2 c κs = search rules
 
 returns-2 : tie.Need-returns
-returns-2 c = let s = c.before.before in to_z-of_z (sfits_of c.with_magnitude-2.type_inv) ∙ c.with_magnitude-2.ensures ∙ ap saturate (second-larger s.args.neg s.args.m s.args.f c.if-f-m.false)
+returns-2 c = let s = c.before.before in to_z-of_z {w = w64} (sfits_of c.with_magnitude-2.type_inv) ∙ c.with_magnitude-2.ensures ∙ ap saturate (second-larger s.args.neg s.args.m s.args.f c.if-f-m.false)
 
 pub add_opposed_spec : {M : Type 1} → statement M
 add_opposed_spec = tie.close (tie.spec with-magnitude-requires returns sub-with-magnitude with-magnitude-requires-2 returns-2)

@@ -4,6 +4,7 @@ use mathlib.Core.Path.{sym, ap, ap₂, ◌∙◌}
 use native.Mathlib.Omega.{arith}
 use lib.IntN.{ℤ, pos, nat_abs, ◌+ℤ◌, ◌*ℤ◌, zero-*ℤ, +ℤ_idl}
 use mir.Facts.{to_z-of_z}
+use mir.Syntax.{w64}
 use Rattle.integer.specs.Exact.{sign_of}
 use Rattle.words.specs.Saturated.{saturate}
 use Rattle.words.proofs.Saturated.{sat-out}
@@ -39,7 +40,7 @@ returns c = let m3 = c.before.before in
     let f = rw (to_z-of_z s.ranges.e) at m3.magnitude-f.ensures in
     let k0 = abs-zero s.args.k (sym x ∙ c.if-x-eq0.true) in
     let r = rw (to_z-of_z s.ranges.e) at c.saturated.ensures in
-    to_z-of_z (sfits_of c.saturated.type_inv) ∙ r ∙ ap saturate (sym (ap (λ (z : ℤ). (z *ℤ s.args.c) +ℤ s.args.e) k0 ∙ ap (λ (z : ℤ). z +ℤ s.args.e) (zero-*ℤ s.args.c) ∙ +ℤ_idl s.args.e))
+    to_z-of_z {w = w64} (sfits_of c.saturated.type_inv) ∙ r ∙ ap saturate (sym (ap (λ (z : ℤ). (z *ℤ s.args.c) +ℤ s.args.e) k0 ∙ ap (λ (z : ℤ). z +ℤ s.args.e) (zero-*ℤ s.args.c) ∙ +ℤ_idl s.args.e))
 
 div-if2 : tie.Need-nonzero_div-x
 div-if2 c = search rules
@@ -72,7 +73,7 @@ returns-3 c = let t = c.before in
     let f = rw (to_z-of_z s.ranges.e) at m3.magnitude-f.ensures in
     let r = rw (x, y, f, to_z-of_z s.ranges.k, to_z-of_z s.ranges.c) at c.add_alike.ensures in
     let b = rw (to_z-of_z s.ranges.k, to_z-of_z s.ranges.c, to_z-of_z s.ranges.e) at t.if-neg-e.true in
-    to_z-of_z (sfits_of c.add_alike.type_inv) ∙ r ∙ ap₂ (λ (u v : ℤ). saturate (u +ℤ v)) (mul-signed s.args.k s.args.c) (ap (λ (n : Bool). sign_of n (nat_abs s.args.e)) (beq-true (not (beq (lt_z s.args.k (pos 0)) (lt_z s.args.c (pos 0)))) (lt_z s.args.e (pos 0)) b) ∙ sign-abs s.args.e)
+    to_z-of_z {w = w64} (sfits_of c.add_alike.type_inv) ∙ r ∙ ap₂ (λ (u v : ℤ). saturate (u +ℤ v)) (mul-signed s.args.k s.args.c) (ap (λ (n : Bool). sign_of n (nat_abs s.args.e)) (beq-true (not (beq (lt_z s.args.k (pos 0)) (lt_z s.args.c (pos 0)))) (lt_z s.args.e (pos 0)) b) ∙ sign-abs s.args.e)
 
 mul-add-opposed : tie.Need-overflow_mul-x-2
 mul-add-opposed c = record { fits = omega (arith, room _ _ c.if-x-eq0.false c.if-x-y.false) }
@@ -91,7 +92,7 @@ returns-4 c = let t = c.before in
     let f = rw (to_z-of_z s.ranges.e) at m3.magnitude-f.ensures in
     let r = rw (x, y, f, to_z-of_z s.ranges.k, to_z-of_z s.ranges.c) at c.add_opposed.ensures in
     let b = rw (to_z-of_z s.ranges.k, to_z-of_z s.ranges.c, to_z-of_z s.ranges.e) at t.if-neg-e.false in
-    to_z-of_z (sfits_of c.add_opposed.type_inv) ∙ r ∙ ap₂ (λ (u v : ℤ). saturate (u +ℤ v)) (mul-signed s.args.k s.args.c) (ap (λ (n : Bool). sign_of n (nat_abs s.args.e)) (sym (beq-false (not (beq (lt_z s.args.k (pos 0)) (lt_z s.args.c (pos 0)))) (lt_z s.args.e (pos 0)) b)) ∙ sign-abs s.args.e)
+    to_z-of_z {w = w64} (sfits_of c.add_opposed.type_inv) ∙ r ∙ ap₂ (λ (u v : ℤ). saturate (u +ℤ v)) (mul-signed s.args.k s.args.c) (ap (λ (n : Bool). sign_of n (nat_abs s.args.e)) (sym (beq-false (not (beq (lt_z s.args.k (pos 0)) (lt_z s.args.c (pos 0)))) (lt_z s.args.e (pos 0)) b)) ∙ sign-abs s.args.e)
 
 pub multiply_add_spec : {M : Type 1} → statement M
 multiply_add_spec =

@@ -6,6 +6,7 @@ use native.Mathlib.Nat.{div-lt_iff_lt-mul, le-div_iff_mul-le}
 use native.Mathlib.Omega.{arith}
 use lib.IntN.{pos, ◌*ℤ◌, zero-*ℤ}
 use mir.Facts.{to_z-of_z}
+use mir.Syntax.{w64}
 use Rattle.words.proofs.Saturated.{sat-in, sat-out}
 use Rattle.integer.proofs.Signs.{abs-mul, abs-zero, mul-signed}
 use Rattle.words.proofs.numbers.times.Statement.{statement}
@@ -50,7 +51,7 @@ returns-3 c = let s = c.before.before.before.before.before in
     let y = rw (to_z-of_z s.ranges.b) at c.magnitude-y.ensures in
     let h = rw (x, y) at (within _ _ c.if-x-eq0.false c.if-x-y.false) in
     let e = rw (x, y, to_z-of_z s.ranges.a, to_z-of_z s.ranges.b) at c.with_sign.ensures in
-    to_z-of_z (sfits_of c.with_sign.type_inv) ∙ e ∙ mul-signed s.args.a s.args.b ∙ sym (sat-in (s.args.a *ℤ s.args.b) (rw abs-mul h))
+    to_z-of_z {w = w64} (sfits_of c.with_sign.type_inv) ∙ e ∙ mul-signed s.args.a s.args.b ∙ sym (sat-in (s.args.a *ℤ s.args.b) (rw abs-mul h))
 
 pub times_spec : {M : Type 1} → statement M
 times_spec =
