@@ -1,7 +1,7 @@
 -- Worked examples of the definitions: maps beside the numbers that judge them, and that the two agree. Assumes nothing.
 use mathlib.Core.Path.{refl}
 use mathlib.Core.List.{List, [], ◌∷◌, ◌++◌}
-use Prim.Native.Nat.{ℕ, ◌+◌, ◌^◌}
+use Prim.Native.Nat.{ℕ, ◌^◌}
 use lib.IntN.{ℤ, pos, neg_ℤ}
 use lib.ListN.{take, replicate}
 use Rattle.integer.proofs.Samples.{Agree}

@@ -2,17 +2,12 @@
 use crate::arguments::Arguments;
 use layout::{Held, Layout, Offset, Padded, Placed};
 use shape::{Counted, Element, Shape};
+use std::io;
+use std::io::Write;
 use writing::{aligned, column, put, refused, spaced, text, width};
 
 // The most cells of a table.
 const MOST: u64 = 4096;
-
-// The cells listed so far: the next place in the output, and whether there are any.
-#[derive(Clone, Copy)]
-pub struct Listed {
-    pub at: usize,
-    pub any: bool,
-}
 
 // A row of the table has as many entries as the shape's last size.
 fn columns(shape: Shape) -> u64 {
@@ -29,94 +24,93 @@ fn starts_row(element: u64, columns: u64) -> bool {
 }
 
 // What stands before an element's entry.
-fn before_entry(out: &mut [u8], at: usize, element: u64, columns: u64) -> usize {
+fn before_entry<W: Write>(out: &mut W, element: u64, columns: u64) -> io::Result<()> {
     if element == 0 {
-        return at;
+        return Ok(());
     }
     if starts_row(element, columns) {
-        return put(out, at, b'\n');
+        return put(out, b'\n');
     }
-    put(out, at, b' ')
+    put(out, b' ')
 }
 
-fn entry(
-    out: &mut [u8],
-    at: usize,
+fn entry<W: Write>(
+    out: &mut W,
     shape: Shape,
     layout: Layout,
     element: u64,
     field: usize,
-) -> usize {
-    let next = before_entry(out, at, element, columns(shape));
+) -> io::Result<()> {
+    before_entry(out, element, columns(shape))?;
     match layout::offset_of_element(shape, layout, Element(element)) {
-        Placed::At(o) => aligned(out, next, o.0, field),
-        Placed::Refused(r) => refused(out, next, r),
+        Placed::At(o) => aligned(out, o.0, field),
+        Placed::Refused(r) => refused(out, r),
     }
 }
 
 // The offsets of the elements, in rows.
-fn table(
-    out: &mut [u8],
-    at: usize,
+fn table<W: Write>(
+    out: &mut W,
     shape: Shape,
     layout: Layout,
     count: u64,
     field: usize,
-) -> usize {
-    let mut next = at;
-    let mut element = 0;
-    while element < count {
-        next = entry(out, next, shape, layout, element, field);
-        element += 1;
+) -> io::Result<()> {
+    for element in 0..count {
+        entry(out, shape, layout, element, field)?;
     }
-    next
+    Ok(())
 }
 
-fn padding_cell(
-    out: &mut [u8],
-    listed: Listed,
+// The offset of a cell that is padding, behind a space, and whether it is.
+fn padding_cell<W: Write>(
+    out: &mut W,
     shape: Shape,
     layout: Layout,
     offset: u64,
-) -> Listed {
+) -> io::Result<bool> {
     match layout::element_at(shape, layout, Offset(offset)) {
-        Held::Padding => Listed {
-            at: spaced(out, listed.at, offset),
-            any: true,
-        },
-        _ => listed,
+        Held::Padding => {
+            spaced(out, offset)?;
+            Ok(true)
+        }
+        _ => Ok(false),
     }
 }
 
-// The offsets of the padding, each behind a space.
-fn padding_cells(out: &mut [u8], at: usize, shape: Shape, layout: Layout, cells: u64) -> Listed {
-    let mut listed = Listed { at, any: false };
-    let mut offset = 0;
-    while offset < cells {
-        listed = padding_cell(out, listed, shape, layout, offset);
-        offset += 1;
+// The offsets of the padding, each behind a space, and whether there are any.
+fn padding_cells<W: Write>(
+    out: &mut W,
+    shape: Shape,
+    layout: Layout,
+    cells: u64,
+) -> io::Result<bool> {
+    let mut any = false;
+    for offset in 0..cells {
+        if padding_cell(out, shape, layout, offset)? {
+            any = true;
+        }
     }
-    listed
+    Ok(any)
 }
 
-fn padding(out: &mut [u8], at: usize, shape: Shape, layout: Layout, cells: u64) -> usize {
-    let next = text(out, at, b"\npadding");
-    let listed = padding_cells(out, next, shape, layout, cells);
-    if listed.any {
-        return listed.at;
+fn padding<W: Write>(out: &mut W, shape: Shape, layout: Layout, cells: u64) -> io::Result<()> {
+    text(out, b"\npadding")?;
+    if padding_cells(out, shape, layout, cells)? {
+        return Ok(());
     }
-    text(out, listed.at, b" none")
+    text(out, b" none")
 }
 
 // The table and the padding of a layout of that many cells.
-fn picture(out: &mut [u8], at: usize, shape: Shape, layout: Layout, cells: u64) -> usize {
+fn picture<W: Write>(out: &mut W, shape: Shape, layout: Layout, cells: u64) -> io::Result<()> {
     let field = if 0 < cells { width(cells - 1) } else { 1 };
     match shape::element_count(shape) {
         Counted::Elements(n) => {
-            let next = table(out, at, shape, layout, n, field);
-            padding(out, next, shape, layout, cells)
+            table(out, shape, layout, n, field)?;
+            padding(out, shape, layout, cells)
         }
-        Counted::Refused(r) => refused(out, at, r),
+        Counted::Refused(r) => refused(out, r),
     }
 }
 
@@ -129,29 +123,27 @@ fn is_drawn(rank: usize, cells: u64) -> bool {
 }
 
 // The answer to a request whose arguments start at a place.
-pub fn grid(a: Arguments, start: usize, out: &mut [u8], at: usize) -> usize {
+pub fn grid<W: Write>(a: Arguments, start: usize, out: &mut W) -> io::Result<()> {
     let shape = a.shape;
     let layout = a.layout;
     match layout::padded_size(shape, layout) {
-        Padded::Cells(n) => draw(out, at, shape, layout, n, start),
-        Padded::Refused(r) => refused(out, at, r),
+        Padded::Cells(n) => draw(out, shape, layout, n, start),
+        Padded::Refused(r) => refused(out, r),
     }
 }
 
-fn draw(
-    out: &mut [u8],
-    at: usize,
+fn draw<W: Write>(
+    out: &mut W,
     shape: Shape,
     layout: Layout,
     cells: u64,
     start: usize,
-) -> usize {
+) -> io::Result<()> {
     if is_drawn(shape.rank, cells) {
-        return picture(out, at, shape, layout, cells);
+        return picture(out, shape, layout, cells);
     }
     column(
         out,
-        at,
         b"error: a grid has rank 1 or 2 and at most 4096 cells",
         start,
     )

@@ -7,9 +7,10 @@ mod buffers;
 mod grid;
 
 use arguments::{Arguments, read_arguments};
-use check::same;
 use grid::grid;
-use reading::{Cursor, Word, finish, part, skip};
+use reading::{Cursor, Word, finish, part, same, skip};
+use std::io;
+use std::io::Write;
 use writing::error;
 
 #[derive(Clone, Copy)]
@@ -75,10 +76,10 @@ fn named_elements(name: &[u8]) -> Request {
 }
 
 // The answer to a line that starts with a name, or an error there where no request has that name.
-pub fn answer_named(line: &[u8], name: Word, out: &mut [u8], at: usize) -> usize {
+pub fn answer_named<W: Write>(line: &[u8], name: Word, out: &mut W) -> io::Result<()> {
     let request = named(part(line, name.start, name.end));
     if let Request::Unknown = request {
-        return error(out, at, name.start);
+        return error(out, name.start);
     }
     let from = Cursor {
         at: name.end,
@@ -87,33 +88,38 @@ pub fn answer_named(line: &[u8], name: Word, out: &mut [u8], at: usize) -> usize
     let a = read_arguments(line, from, request);
     let end = finish(line, a.next);
     if !end.ok {
-        return error(out, at, end.at);
+        return error(out, end.at);
     }
-    answer_to(request, a, skip(line, name.end), out, at)
+    answer_to(request, a, skip(line, name.end), out)
 }
 
 // The answer to a request whose arguments start at a place.
-fn answer_to(request: Request, a: Arguments, start: usize, out: &mut [u8], at: usize) -> usize {
+fn answer_to<W: Write>(
+    request: Request,
+    a: Arguments,
+    start: usize,
+    out: &mut W,
+) -> io::Result<()> {
     match request {
-        Request::Padded => answer::padded(a, out, at),
-        Request::Offset => answer::offset(a, out, at),
-        Request::Cell => answer::cell(a, out, at),
-        Request::Card => answer::card(a, out, at),
-        Request::Fit => answer::fit(a, out, at),
-        Request::Number => answer::number(a, out, at),
-        Request::Point => answer::point(a, out, at),
-        Request::Grid => grid(a, start, out, at),
-        _ => answer_on_buffers(request, a, out, at),
+        Request::Padded => answer::padded(a, out),
+        Request::Offset => answer::offset(a, out),
+        Request::Cell => answer::cell(a, out),
+        Request::Card => answer::card(a, out),
+        Request::Fit => answer::fit(a, out),
+        Request::Number => answer::number(a, out),
+        Request::Point => answer::point(a, out),
+        Request::Grid => grid(a, start, out),
+        _ => answer_on_buffers(request, a, out),
     }
 }
 
 // The answer to a request on buffers.
-fn answer_on_buffers(request: Request, a: Arguments, out: &mut [u8], at: usize) -> usize {
+fn answer_on_buffers<W: Write>(request: Request, a: Arguments, out: &mut W) -> io::Result<()> {
     match request {
-        Request::Pack => buffers::packed(a, out, at),
-        Request::Unpack => buffers::unpacked(a, out, at),
-        Request::Store => buffers::stored(a, out, at),
-        Request::Load => buffers::loaded(a, out, at),
-        _ => at,
+        Request::Pack => buffers::packed(a, out),
+        Request::Unpack => buffers::unpacked(a, out),
+        Request::Store => buffers::stored(a, out),
+        Request::Load => buffers::loaded(a, out),
+        _ => Ok(()),
     }
 }

@@ -3,14 +3,15 @@ use crate::arguments::{Arguments, Run, is_run_next, read_run};
 use reading::Cursor;
 use refusal::Verdict;
 use retile::{Retiled, retile};
+use std::io;
+use std::io::Write;
 use writing::spaced;
 
-// What the runs made so far leave: the last mark, where the next run starts in the line, and the next place in the output.
+// What the runs made so far leave: the last mark, and where the next run starts in the line.
 #[derive(Clone, Copy)]
-pub struct Made {
-    pub mark: u64,
-    pub next: Cursor,
-    pub at: usize,
+struct Made {
+    mark: u64,
+    next: Cursor,
 }
 
 // Whether a run is refused. The allowance plays no part in that, and with none the run changes nothing.
@@ -38,18 +39,18 @@ pub fn judge_runs(line: &[u8], a: Arguments, source: &[u32], cells: &mut [u32]) 
 }
 
 // Makes the next run and puts how many cells it settled. No run is refused here.
-fn put_run(
+fn put_run<W: Write>(
     line: &[u8],
     a: Arguments,
     before: Made,
-    out: &mut [u8],
+    out: &mut W,
     source: &[u32],
     cells: &mut [u32],
-) -> Made {
+) -> io::Result<Made> {
     let run = read_run(line, before.next);
     let next = run.next;
     let mut mark = run.mark;
-    match retile(
+    if let Retiled::Settled(n) = retile(
         a.shape,
         a.given,
         a.wanted,
@@ -58,34 +59,25 @@ fn put_run(
         &mut mark,
         run.allowance,
     ) {
-        Retiled::Settled(n) => Made {
-            mark,
-            next,
-            at: spaced(out, before.at, n),
-        },
-        Retiled::Refused(_) => Made {
-            mark,
-            next,
-            at: before.at,
-        },
+        spaced(out, n)?;
     }
+    Ok(Made { mark, next })
 }
 
-// Makes the runs, none of which is refused, and puts how many cells each settled.
-pub fn put_runs(
+// Makes the runs, none of which is refused, and puts how many cells each settled. The answer is the last mark.
+pub fn put_runs<W: Write>(
     line: &[u8],
     a: Arguments,
-    out: &mut [u8],
-    at: usize,
+    out: &mut W,
     source: &[u32],
     cells: &mut [u32],
-) -> Made {
+) -> io::Result<u64> {
     let next = a.runs;
-    let mut made = Made { mark: 0, next, at };
+    let mut made = Made { mark: 0, next };
     let mut left = line.len();
     while left > 0 && is_run_next(line, made.next) {
-        made = put_run(line, a, made, out, source, cells);
+        made = put_run(line, a, made, out, source, cells)?;
         left -= 1;
     }
-    made
+    Ok(made.mark)
 }

@@ -2,14 +2,13 @@
 use mathlib.Core.Path.{◌≡◌, refl, ap, ◌∙◌}
 use mathlib.Core.Bool.{Bool, true, false, ◌&&◌}
 use mathlib.Core.List.{List, [], ◌∷◌, ◌++◌}
-use Prim.Native.Nat.{ℕ, suc, ◌+◌, ◌-◌}
+use Prim.Native.Nat.{ℕ, suc}
 use lib.IntN.{ℤ}
 use Rattle.expression.specs.Expression.{Kind, Op, Range}
 use Rattle.folding.specs.Sum.{Sum}
 use Rattle.folding.specs.Fold.{Step, is, again, add_sums, scale_sum, apply_rule, apply_rules}
 use Rattle.folding.specs.Working.{small_sum, small_sums, sums_formed}
 use Rattle.rules.specs.Outcome.{rests_of}
-use Rattle.rules.specs.declared.Applied.TheVariants as A
 
 -- ---- sums formed, judged part by part
 

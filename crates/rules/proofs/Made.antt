@@ -14,7 +14,7 @@ use Rattle.integer.proofs.Linear.{parts-<}
 use Rattle.expression.specs.Expression.{Kind, Op, floordiv, modulo, Range, span, op_range}
 use Rattle.expression.specs.Node.{max_divisor}
 use Rattle.folding.specs.Sum.{Atom, Sum, term_count, atom_size, sum_size, op_number, atom_range, sum_range}
-use Rattle.folding.specs.Fold.{Step, is, again, add_constant, part_p, part_r, rule1, rule2, rule3, rule4, rules34, stays}
+use Rattle.folding.specs.Fold.{Step, again, add_constant, part_p, part_r, rule1, rule2, rule3, rule4, rules34, stays}
 use Rattle.folding.specs.Working.{small_sum}
 use Rattle.folding.specs.Folded.{FoldedA, FoldedS}
 use Rattle.folding.proofs.Size.{size-parts}

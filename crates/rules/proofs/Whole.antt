@@ -10,7 +10,7 @@ use Rattle.integer.proofs.Linear.{<-parts}
 use lib.ListN.{length, drop, take, take-append-drop}
 use Rattle.expression.specs.Expression.{Kind, Op, Range}
 use Rattle.folding.specs.Sum.{Atom, Sum, term_count, atom_size, sum_size, op_number}
-use Rattle.folding.specs.Fold.{is, add_sums, scale_sum, apply_rules}
+use Rattle.folding.specs.Fold.{add_sums, scale_sum, apply_rules}
 use Rattle.folding.specs.Folded.{FoldedS, weight}
 use Rattle.folding.specs.Working.{small_sum, small_sums, sums_formed}
 use Rattle.folding.proofs.Ending.{Good, step-good, run-folded}

@@ -12,7 +12,6 @@ use Rattle.folding.specs.Folded.{FoldedS}
 use Rattle.words.specs.Words.{sum_words}
 use Rattle.words.specs.Saturated.{saturate_sum, shifted}
 use Rattle.rules.specs.Outcome.{outcome_room, Safe}
-use Rattle.rules.specs.declared.Again.{Again}
 use Rattle.rules.specs.declared.Applied.{Applied}
 use Rattle.rules.specs.declared.Applied.TheVariants as A
 use Rattle.rules.specs.declared.applying.Found.{Found}

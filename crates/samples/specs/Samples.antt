@@ -6,7 +6,6 @@ use Rattle.refusal.specs.declared.Refusal.TheVariants.{ShapeLimits, Attribute, L
 use Rattle.shape.specs.Answers.{element_count}
 use Rattle.shape.specs.declared.Shape.{Shape}
 use Rattle.reciprocal.specs.Answers.{multiplier_entry}
-use Rattle.tiling.specs.Tile.{padded, offset}
 use Rattle.layout.specs.Answers.{padded_size, point_offset, element_held}
 use Rattle.layout.specs.declared.Layout.{Layout}
 use Rattle.plan.specs.Answer.{spread}

@@ -1,8 +1,6 @@
 -- `indexing::judging::good_ends` meets its contract. Assumes nothing.
 use borrow.Author.Rules.{rules}
-use Prim.Native.Nat.{◌-◌}
 use Rattle.indexing.specs.Map.{good_ends}
-use Rattle.indexing.specs.declared.Run.TheVariants as run
 use Rattle.indexing.proofs.judging.good_ends.Statement.{statement}
 use Rattle.indexing.proofs.judging.good_ends.Tie as tie
 

@@ -3,11 +3,9 @@ use borrow.Author.Rules.{rules}
 use borrow.Author.Tests.{le-leb, lt-leb}
 use mathlib.Core.Path.{◌≡◌}
 use mathlib.Core.Bool.{true}
-use Prim.Native.Nat.{◌-◌}
 use lib.IntN.{nat_abs}
 use lib.Signed.{le_z}
 use mir.Facts.{to_z-of_z}
-use Rattle.indexing.specs.declared.Run.TheVariants as run
 use Rattle.indexing.proofs.Comparisons.{lt_not_le, not-lt-le}
 use Rattle.indexing.proofs.judging.good_interval.Statement.{statement}
 use Rattle.indexing.proofs.judging.good_interval.Tie as tie

@@ -9,7 +9,6 @@ use native.Mathlib.Omega.{arith}
 use mir.Facts.{to_z-of_z}
 use Rattle.radix.proofs.Tests.{every-all, every-not}
 use Rattle.indexing.specs.Map.{good_ends_at, good_intervals}
-use Rattle.indexing.specs.declared.Run.TheVariants as run
 use Rattle.indexing.proofs.judging.good_intervals.Statement.{statement}
 use Rattle.indexing.proofs.judging.good_intervals.Tie as tie
 

@@ -8,7 +8,6 @@ use native.Mathlib.Omega.{arith}
 use Rattle.radix.proofs.Tests.{every-all, every-not}
 use Rattle.expression.specs.Reckon.{is_kept}
 use Rattle.indexing.specs.Map.{runs, kept_at, good_ranges}
-use Rattle.indexing.specs.declared.Run.TheVariants as run
 use Rattle.indexing.proofs.judging.good_ranges.Statement.{statement}
 use Rattle.indexing.proofs.judging.good_ranges.Tie as tie
 

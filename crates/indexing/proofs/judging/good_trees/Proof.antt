@@ -8,7 +8,6 @@ use Prim.Native.Nat.{ℕ, ◌-◌, ◌<◌, ◌≤◌}
 use native.Mathlib.Omega.{arith}
 use Rattle.radix.proofs.Tests.{every-all, every-not}
 use Rattle.indexing.specs.Map.{runs, good_tree, good_trees}
-use Rattle.indexing.specs.declared.Run.TheVariants as run
 use Rattle.indexing.proofs.judging.good_trees.Statement.{statement}
 use Rattle.indexing.proofs.judging.good_trees.Tie as tie
 

@@ -1,10 +1,8 @@
 -- `indexing::judging::judge_map` meets its contract. Assumes nothing.
 use borrow.Author.Rules.{rules}
 use mathlib.Core.Path.{ap}
-use Prim.Native.Nat.{◌-◌}
 use Rattle.refusal.specs.Number.{verdict_answer}
 use Rattle.indexing.specs.Answers.{judged_map}
-use Rattle.indexing.specs.declared.Run.TheVariants as run
 use Rattle.indexing.proofs.judging.judge_map.Statement.{statement}
 use Rattle.indexing.proofs.judging.judge_map.Tie as tie
 

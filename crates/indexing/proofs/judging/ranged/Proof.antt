@@ -10,7 +10,6 @@ use mir.Facts.{to_z-of_z}
 use Rattle.expression.specs.Reckon.{low_end, high_end}
 use Rattle.indexing.specs.Map.{max_results, range_at}
 use Rattle.indexing.specs.Answers.{lows_of, highs_of}
-use Rattle.indexing.specs.declared.Run.TheVariants as run
 use Rattle.indexing.proofs.Fronts.{front-none, front-next}
 use Rattle.indexing.proofs.Formed.{Counts, counts-of}
 use Rattle.indexing.proofs.judging.ranged.Statement.{statement}

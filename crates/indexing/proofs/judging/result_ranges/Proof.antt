@@ -1,9 +1,7 @@
 -- `indexing::judging::result_ranges` meets its contract. Assumes nothing.
 use borrow.Author.Rules.{rules}
 use mathlib.Core.Path.{sym, ◌∙◌}
-use Prim.Native.Nat.{◌-◌}
 use Rattle.indexing.specs.Answers.{result_ranges}
-use Rattle.indexing.specs.declared.Run.TheVariants as run
 use Rattle.indexing.proofs.Formed.{accepted-of}
 use Rattle.indexing.proofs.judging.result_ranges.Statement.{statement}
 use Rattle.indexing.proofs.judging.result_ranges.Tie as tie

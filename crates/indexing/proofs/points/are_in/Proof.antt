@@ -10,7 +10,6 @@ use lib.ListN.{length}
 use mir.Facts.{to_z-of_z}
 use Rattle.radix.proofs.Tests.{every-all, every-not}
 use Rattle.indexing.specs.Map.{in_at, are_in}
-use Rattle.indexing.specs.declared.Run.TheVariants as run
 use Rattle.indexing.proofs.points.are_in.Statement.{statement}
 use Rattle.indexing.proofs.points.are_in.Tie as tie
 

@@ -3,14 +3,12 @@ use borrow.Author.Rules.{rules}
 use borrow.Author.Tests.{not-true, not-false, ne_eqb, eq-eqb}
 use mathlib.Core.Path.{◌≡◌, sym, ◌∙◌}
 use mathlib.Core.Bool.{true, ◌&&◌}
-use Prim.Native.Nat.{◌-◌}
 use lib.Dec.{eqb}
 use lib.ListN.{length}
 use Rattle.radix.proofs.Tests.{and-true, and_left, and_right}
 use Rattle.indexing.specs.Map.{good_parts, good_counts, good_ranges, right_length, in_bounds, in_domain}
 use Rattle.indexing.specs.Ready.{Formed, Measured}
 use Rattle.indexing.specs.Answers.{result_values}
-use Rattle.indexing.specs.declared.Run.TheVariants as run
 use Rattle.indexing.proofs.points.evaluate.Statement.{statement}
 use Rattle.indexing.proofs.points.evaluate.Tie as tie
 

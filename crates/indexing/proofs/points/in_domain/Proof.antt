@@ -2,9 +2,7 @@
 use borrow.Author.Rules.{rules}
 use borrow.Author.Tests.{eq-eqb}
 use mathlib.Core.Path.{sym, ◌∙◌}
-use Prim.Native.Nat.{◌-◌}
 use Rattle.indexing.specs.Map.{in_domain}
-use Rattle.indexing.specs.declared.Run.TheVariants as run
 use Rattle.indexing.proofs.points.in_domain.Statement.{statement}
 use Rattle.indexing.proofs.points.in_domain.Tie as tie
 

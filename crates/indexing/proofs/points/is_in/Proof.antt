@@ -1,7 +1,5 @@
 -- `indexing::points::is_in` meets its contract. Assumes nothing.
-use Prim.Native.Nat.{◌-◌}
 use mir.Facts.{to_z-of_z}
-use Rattle.indexing.specs.declared.Run.TheVariants as run
 use Rattle.indexing.proofs.Comparisons.{lt_not_le, not-lt-le}
 use Rattle.indexing.proofs.points.is_in.Statement.{statement}
 use Rattle.indexing.proofs.points.is_in.Tie as tie

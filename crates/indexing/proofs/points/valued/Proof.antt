@@ -9,7 +9,6 @@ use lib.ListN.{set}
 use mir.Facts.{to_z-of_z}
 use Rattle.indexing.specs.Map.{max_results, value_at}
 use Rattle.indexing.specs.Answers.{values_of}
-use Rattle.indexing.specs.declared.Run.TheVariants as run
 use Rattle.indexing.proofs.Fronts.{front-none, front-next}
 use Rattle.indexing.proofs.Formed.{Counts, counts-of}
 use Rattle.indexing.proofs.points.valued.Statement.{statement}

@@ -1,10 +1,8 @@
 -- `indexing::runs::count_at` meets its contract. Assumes nothing.
 use borrow.Author.Rules.{rules}
 use borrow.Author.Tests.{lt-ltb, le-ltb}
-use Prim.Native.Nat.{◌-◌}
 use native.Mathlib.Omega.{arith}
 use Rattle.indexing.specs.Map.{count_in}
-use Rattle.indexing.specs.declared.Run.TheVariants as run
 use Rattle.indexing.proofs.runs.count_at.Statement.{statement}
 use Rattle.indexing.proofs.runs.count_at.Tie as tie
 

@@ -6,13 +6,6 @@ use Rattle.operations.proofs.Changed.{reverse-good, reverse-way}
 use borrow.Author.Rules.{rules}
 use Rattle.operations.proofs.changing.reverse.Statement.{statement}
 use Rattle.operations.proofs.changing.reverse.Tie as tie
-use Rattle.operations.proofs.changing.reverse.Reads as reads
-use Rattle.operations.proofs.changing.reverse.Lts as lts
-use Rattle.fold.proofs.fold_map.Reads as fold-map-reads
-use Rattle.operation_builder.proofs.inner.shape_axes.Reads as shape-axes-reads
-use Rattle.operations.proofs.judging.judge_dimensions.Reads as judge-dimensions-reads
-use Rattle.operations.proofs.ways.is_out.Reads as is-out-reads
-use Rattle.indexing.proofs.inner.refused_map.Reads as refused-map-reads
 
 abbrev op : tie.Start → Operation
 op s = Operation.reverse s.args.input s.args.dimensions.now

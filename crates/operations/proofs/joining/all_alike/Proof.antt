@@ -12,10 +12,6 @@ use Rattle.operations.proofs.Concatenated.{mapped-long, good-at, alike_is, all-n
 use borrow.Author.Rules.{rules}
 use Rattle.operations.proofs.joining.all_alike.Statement.{statement}
 use Rattle.operations.proofs.joining.all_alike.Tie as tie
-use Rattle.operations.proofs.joining.all_alike.Reads as reads
-use Rattle.operations.proofs.joining.all_alike.Lts as lts
-use Rattle.operations.proofs.joining.alike_shapes.Reads as alike-shapes-reads
-use Rattle.operations.proofs.joining.operand_of.Reads as operand-of-reads
 
 abbrev invariant-loop : tie.invariant-loop-k
 invariant-loop x dimension first count k₀ k = (k ≤ count) × ((i : ℕ) → i < k → alike dimension (operand_sizes x.count x.shapes 0) (operand_sizes x.count x.shapes i) ≡ true)

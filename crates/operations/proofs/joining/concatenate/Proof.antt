@@ -7,13 +7,6 @@ use Rattle.operations.proofs.Concatenated.{concatenate-way}
 use borrow.Author.Rules.{rules}
 use Rattle.operations.proofs.joining.concatenate.Statement.{statement}
 use Rattle.operations.proofs.joining.concatenate.Tie as tie
-use Rattle.operations.proofs.joining.concatenate.Reads as reads
-use Rattle.operations.proofs.joining.concatenate.Lts as lts
-use Rattle.fold.proofs.fold_map.Reads as fold-map-reads
-use Rattle.operations.proofs.joining.joined_map.Reads as joined-map-reads
-use Rattle.operations.proofs.joining.judge_concatenate.Reads as judge-concatenate-reads
-use Rattle.operations.proofs.ways.is_out.Reads as is-out-reads
-use Rattle.indexing.proofs.inner.refused_map.Reads as refused-map-reads
 
 abbrev op : tie.Start → Operation
 op s = Operation.concatenate s.args.operands.count s.args.operands.shapes s.args.dimension s.args.operand

@@ -10,10 +10,6 @@ use Rattle.operations.proofs.Concatenated.{mapped-long, first-rank}
 use borrow.Author.Rules.{rules}
 use Rattle.operations.proofs.joining.good_join.Statement.{statement}
 use Rattle.operations.proofs.joining.good_join.Tie as tie
-use Rattle.operations.proofs.joining.good_join.Reads as reads
-use Rattle.operations.proofs.joining.good_join.Lts as lts
-use Rattle.operations.proofs.joining.all_alike.Reads as all-alike-reads
-use Rattle.operations.proofs.joining.operand_of.Reads as operand-of-reads
 
 eight : (s : tie.Start) → length s.args.x.shapes ≡ max_operands
 eight s = search (rules, mapped-long)
@@ -76,7 +72,7 @@ returns-5 c =
     let s = e.before in
     let x = s.args.x in
     rw (le-leb 1 x.count e.if-count-lt1.false, le-leb x.count max_operands f.if-count-gt-MAX_OPERANDS.false, held f, lt-ltb s.args.dimension (length (operand_sizes x.count x.shapes 0)) (omega (arith, g.if-rank-dimension.false, ranked o)), lt-ltb s.args.operand x.count h.if-count-operand.false)
-    c.all_Alike.ensures
+    c.all_alike.ensures
 
 pub good_join_spec : {M : Type 1} → statement M
 good_join_spec =

@@ -12,11 +12,6 @@ use Rattle.operations.proofs.Concatenated.{mapped-long, operands-bad, operands-g
 use borrow.Author.Rules.{rules}
 use Rattle.operations.proofs.joining.good_operands.Statement.{statement}
 use Rattle.operations.proofs.joining.good_operands.Tie as tie
-use Rattle.operations.proofs.joining.good_operands.Reads as reads
-use Rattle.operations.proofs.joining.good_operands.Lts as lts
-use Rattle.operations.proofs.joining.held_count.Reads as held-count-reads
-use Rattle.operations.proofs.joining.operand_of.Reads as operand-of-reads
-use Rattle.shape.proofs.good_shape.Reads as good-shape-reads
 
 abbrev invariant-loop : tie.invariant-loop-k
 invariant-loop x n k₀ k = (k ≤ n) × ((i : ℕ) → i < k → good_shape (get_or x.shapes i no_shape) ≡ true)

@@ -11,11 +11,6 @@ use Rattle.shape.specs.declared.Shape.{Shape}
 use borrow.Author.Rules.{rules}
 use Rattle.operations.proofs.joining.good_result.Statement.{statement}
 use Rattle.operations.proofs.joining.good_result.Tie as tie
-use Rattle.operations.proofs.joining.good_result.Reads as reads
-use Rattle.operations.proofs.joining.good_result.Lts as lts
-use Rattle.operations.proofs.joining.joined_before.Reads as joined-before-reads
-use Rattle.operations.proofs.joining.operand_of.Reads as operand-of-reads
-use Rattle.shape.proofs.good_shape.Reads as good-shape-reads
 
 eight : (s : tie.Start) → length s.args.x.shapes ≡ max_operands
 eight s = search (rules, mapped-long)

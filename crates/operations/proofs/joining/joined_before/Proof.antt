@@ -10,10 +10,6 @@ use lib.ListN.{length}
 use borrow.Author.Rules.{rules}
 use Rattle.operations.proofs.joining.joined_before.Statement.{statement}
 use Rattle.operations.proofs.joining.joined_before.Tie as tie
-use Rattle.operations.proofs.joining.joined_before.Reads as reads
-use Rattle.operations.proofs.joining.joined_before.Lts as lts
-use Rattle.operations.proofs.joining.operand_of.Reads as operand-of-reads
-use Rattle.operations.proofs.joining.size_of.Reads as size-of-reads
 
 abbrev invariant-loop : tie.invariant-loop-k
 invariant-loop x dimension n sum₀ k₀ sum k = (k ≤ n) × (sum ≡ joined_before x.count x.shapes dimension k)

@@ -1,18 +1,12 @@
 -- `operations::joining::joined_map` meets its contract. Assumes nothing.
 use mathlib.Core.Path.{◌≡◌, ◌∙◌}
 use native.Mathlib.Omega.{arith}
-use Prim.Native.Nat.{◌-◌}
 use Rattle.operations.proofs.Concatenated.{mapped-long, Judged, concatenate-judged, joined-good, joined_made}
 use Rattle.operation_maps.specs.Operation.{max_operands}
 use lib.ListN.{length}
 use borrow.Author.Rules.{rules}
 use Rattle.operations.proofs.joining.joined_map.Statement.{statement}
 use Rattle.operations.proofs.joining.joined_map.Tie as tie
-use Rattle.operations.proofs.joining.joined_map.Reads as reads
-use Rattle.operations.proofs.joining.joined_map.Lts as lts
-use Rattle.operation_builder.proofs.inner.plain_axes.Reads as plain-axes-reads
-use Rattle.operations.proofs.joining.joined_before.Reads as joined-before-reads
-use Rattle.operations.proofs.joining.operand_of.Reads as operand-of-reads
 
 eight : (s : tie.Start) → length s.args.x.shapes ≡ max_operands
 eight s = search (rules, mapped-long)

@@ -10,11 +10,6 @@ use Rattle.operations.specs.Join.{GoodOperands}
 use borrow.Author.Rules.{rules}
 use Rattle.operations.proofs.joining.judge_concatenate.Statement.{statement}
 use Rattle.operations.proofs.joining.judge_concatenate.Tie as tie
-use Rattle.operations.proofs.joining.judge_concatenate.Reads as reads
-use Rattle.operations.proofs.joining.judge_concatenate.Lts as lts
-use Rattle.operations.proofs.joining.good_join.Reads as good-join-reads
-use Rattle.operations.proofs.joining.good_operands.Reads as good-operands-reads
-use Rattle.operations.proofs.joining.good_result.Reads as good-result-reads
 
 eight : (s : tie.Start) → length s.args.x.shapes ≡ max_operands
 eight s = search (rules, mapped-long)

@@ -12,9 +12,6 @@ use Rattle.operations.proofs.Judged.{holds-next}
 use borrow.Author.Rules.{rules}
 use Rattle.operations.proofs.judging.good_cuts.Statement.{statement}
 use Rattle.operations.proofs.judging.good_cuts.Tie as tie
-use Rattle.operations.proofs.judging.good_cuts.Reads as reads
-use Rattle.operations.proofs.judging.good_cuts.Lts as lts
-use Rattle.operations.proofs.judging.good_cut.Reads as good-cut-reads
 
 abbrev invariant-loop : tie.invariant-loop-k
 invariant-loop sizes starts limits strides k₀ k = (k ≤ length sizes) × ((i : ℕ) → i < k → good_cut (get_or sizes i 0) (get_or starts i 0) (get_or limits i 0) (get_or strides i 0) ≡ true)

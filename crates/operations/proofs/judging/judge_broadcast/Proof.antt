@@ -10,11 +10,6 @@ use Rattle.operation_maps.specs.Operation.{good_broadcast}
 use borrow.Author.Rules.{rules}
 use Rattle.operations.proofs.judging.judge_broadcast.Statement.{statement}
 use Rattle.operations.proofs.judging.judge_broadcast.Tie as tie
-use Rattle.operations.proofs.judging.judge_broadcast.Reads as reads
-use Rattle.operations.proofs.judging.judge_broadcast.Lts as lts
-use Rattle.operations.proofs.judging.good_broadcast.Reads as good-broadcast-reads
-use Rattle.operations.proofs.judging.judge_list.Reads as judge-list-reads
-use Rattle.shape.proofs.good_shape.Reads as good-shape-reads
 
 good-shape-requires : tie.Need-good_shape-requires
 good-shape-requires c κs = search rules

@@ -6,12 +6,6 @@ use Rattle.operations.proofs.Judged.{way-ready, way-done, way-refused, reshape-g
 use borrow.Author.Rules.{rules}
 use Rattle.operations.proofs.reshaping.reshape.Statement.{statement}
 use Rattle.operations.proofs.reshaping.reshape.Tie as tie
-use Rattle.operations.proofs.reshaping.reshape.Reads as reads
-use Rattle.operations.proofs.reshaping.reshape.Lts as lts
-use Rattle.fold.proofs.fold_map.Reads as fold-map-reads
-use Rattle.indexing.proofs.inner.refused_map.Reads as refused-map-reads
-use Rattle.operations.proofs.reshaping.judge_reshape.Reads as judge-reshape-reads
-use Rattle.operations.proofs.reshaping.reshape_either.Reads as reshape-either-reads
 
 abbrev op : tie.Start → Operation
 op s = Operation.reshape s.args.input s.args.output

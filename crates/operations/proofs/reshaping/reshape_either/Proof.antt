@@ -6,9 +6,6 @@ use Rattle.operation_maps.specs.declared.Way.{Way}
 use borrow.Author.Rules.{rules}
 use Rattle.operations.proofs.reshaping.reshape_either.Statement.{statement}
 use Rattle.operations.proofs.reshaping.reshape_either.Tie as tie
-use Rattle.operations.proofs.reshaping.reshape_either.Reads as reads
-use Rattle.operations.proofs.reshaping.reshape_either.Lts as lts
-use Rattle.operation_builder.proofs.inner.shape_reshape.Reads as shape-reshape-reads
 
 enum_told : tie.Need-enum_told-1
 enum_told c = search rules

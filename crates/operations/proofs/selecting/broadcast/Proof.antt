@@ -5,13 +5,6 @@ use Rattle.operations.proofs.Judged.{way-ready, way-done, way-refused, broadcast
 use borrow.Author.Rules.{rules}
 use Rattle.operations.proofs.selecting.broadcast.Statement.{statement}
 use Rattle.operations.proofs.selecting.broadcast.Tie as tie
-use Rattle.operations.proofs.selecting.broadcast.Reads as reads
-use Rattle.operations.proofs.selecting.broadcast.Lts as lts
-use Rattle.fold.proofs.fold_map.Reads as fold-map-reads
-use Rattle.operations.proofs.judging.judge_broadcast.Reads as judge-broadcast-reads
-use Rattle.operations.proofs.ways.is_out.Reads as is-out-reads
-use Rattle.indexing.proofs.inner.refused_map.Reads as refused-map-reads
-use Rattle.operation_builder.proofs.inner.shape_selection.Reads as shape-selection-reads
 
 abbrev op : tie.Start → Operation
 op s = Operation.broadcast s.args.input s.args.output s.args.dimensions.now

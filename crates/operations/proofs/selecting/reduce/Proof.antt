@@ -5,13 +5,6 @@ use Rattle.operations.proofs.Judged.{way-ready, way-done, way-refused, reduce-wa
 use borrow.Author.Rules.{rules}
 use Rattle.operations.proofs.selecting.reduce.Statement.{statement}
 use Rattle.operations.proofs.selecting.reduce.Tie as tie
-use Rattle.operations.proofs.selecting.reduce.Reads as reads
-use Rattle.operations.proofs.selecting.reduce.Lts as lts
-use Rattle.fold.proofs.fold_map.Reads as fold-map-reads
-use Rattle.operations.proofs.judging.judge_dimensions.Reads as judge-dimensions-reads
-use Rattle.operations.proofs.ways.is_out.Reads as is-out-reads
-use Rattle.indexing.proofs.inner.refused_map.Reads as refused-map-reads
-use Rattle.operation_builder.proofs.inner.rest_selection.Reads as rest-selection-reads
 
 abbrev op : tie.Start → Operation
 op s = Operation.reduce s.args.input s.args.dimensions.now

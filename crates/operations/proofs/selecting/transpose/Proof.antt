@@ -5,13 +5,6 @@ use Rattle.operations.proofs.Judged.{way-ready, way-done, way-refused, transpose
 use borrow.Author.Rules.{rules}
 use Rattle.operations.proofs.selecting.transpose.Statement.{statement}
 use Rattle.operations.proofs.selecting.transpose.Tie as tie
-use Rattle.operations.proofs.selecting.transpose.Reads as reads
-use Rattle.operations.proofs.selecting.transpose.Lts as lts
-use Rattle.fold.proofs.fold_map.Reads as fold-map-reads
-use Rattle.operations.proofs.judging.judge_transpose.Reads as judge-transpose-reads
-use Rattle.operations.proofs.ways.is_out.Reads as is-out-reads
-use Rattle.indexing.proofs.inner.refused_map.Reads as refused-map-reads
-use Rattle.operation_builder.proofs.inner.shape_selection.Reads as shape-selection-reads
 
 abbrev op : tie.Start → Operation
 op s = Operation.transpose s.args.input s.args.dimensions.now

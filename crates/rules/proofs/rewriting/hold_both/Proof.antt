@@ -3,9 +3,6 @@ use borrow.Author.Rules.{rules}
 use Rattle.rules.proofs.Settled.{holds}
 use Rattle.rules.proofs.rewriting.hold_both.Statement.{statement}
 use Rattle.rules.proofs.rewriting.hold_both.Tie as tie
-use Rattle.rules.proofs.rewriting.hold_both.Reads as reads
-use Rattle.rules.proofs.rewriting.hold_both.Lts as lts
-use Rattle.words.proofs.copy.Reads as copy-reads
 
 copy-requires : tie.Need-copy-a-requires
 copy-requires c κs = search rules

@@ -3,9 +3,6 @@ use borrow.Author.Rules.{rules}
 use Rattle.rules.proofs.Settled.{judges}
 use Rattle.rules.proofs.rewriting.is_small_sum.Statement.{statement}
 use Rattle.rules.proofs.rewriting.is_small_sum.Tie as tie
-use Rattle.rules.proofs.rewriting.is_small_sum.Reads as reads
-use Rattle.rules.proofs.rewriting.is_small_sum.Lts as lts
-use Rattle.words.proofs.reckon.Reads as reckon-reads
 
 reckon-requires : tie.Need-reckon-r-requires
 reckon-requires c κs = search rules

@@ -5,10 +5,6 @@ use native.Mathlib.Omega.{arith}
 use Rattle.rules.proofs.Settled.{settles-many, settles-passed, settles-kept}
 use Rattle.rules.proofs.rewriting.settle.Statement.{statement}
 use Rattle.rules.proofs.rewriting.settle.Tie as tie
-use Rattle.rules.proofs.rewriting.settle.Reads as reads
-use Rattle.rules.proofs.rewriting.settle.Lts as lts
-use Rattle.rules.proofs.rewriting.is_small_sum.Reads as is-small-sum-reads
-use Rattle.words.proofs.copy.Reads as copy-reads
 
 returns : tie.Need-returns-then-terms-gt65536
 returns c = settles-many _ _ _ _ _ c.requires.1 c.if-terms-gt65536.true
