@@ -5,9 +5,7 @@ use Rattle.expression.specs.Expression.{Kind, d, s, rt, Op, floordiv, modulo, Ex
 use Rattle.expression.specs.Node.{max_variables, max_divisor}
 use Rattle.expression.specs.declared.Node.{Node}
 use Rattle.expression.specs.declared.Node.TheVariants as N
-use Rattle.expression.specs.declared.Leaf.{Leaf}
 use Rattle.expression.specs.declared.Leaf.TheVariants.{Dim, Range, Constant}
-use Rattle.expression.specs.declared.One.{One}
 use Rattle.expression.specs.declared.One.TheVariants.{Product, Floordiv, Mod}
 use Rattle.folding.specs.Sum.{Atom, Sum}
 

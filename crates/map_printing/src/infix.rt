@@ -1,6 +1,8 @@
 // Printing an expression whose nodes stand in postfix order. Its leaves stand in the same order in the text. Before a leaf stand the
 // openings of the trees that start with it, the outermost first, and behind an operation stands its ending.
 use map_reading::{CONSTANT, FLOORDIV, MOD, PRODUCT, SUM, VARIABLE};
+use std::io;
+use std::io::Write;
 use writing::{decimal, put, signed, text};
 
 // What a tree is to the tree that it belongs to. The left side of a sum is printed as a whole expression is.
@@ -110,124 +112,118 @@ fn is_enclosed(n: Node) -> bool {
 }
 
 // The operator of a sum, before its right side.
-fn put_operator(out: &mut [u8], at: usize, n: Node) -> usize {
+fn put_operator<W: Write>(out: &mut W, n: Node) -> io::Result<()> {
     if n.role != RIGHT {
-        return at;
+        return Ok(());
     }
     if is_negative(n) {
-        return text(out, at, b" - ");
+        return text(out, b" - ");
     }
-    text(out, at, b" + ")
+    text(out, b" + ")
 }
 
-fn put_parenthesis(out: &mut [u8], at: usize, n: Node) -> usize {
+fn put_parenthesis<W: Write>(out: &mut W, n: Node) -> io::Result<()> {
     if is_enclosed(n) {
-        return put(out, at, b'(');
+        return put(out, b'(');
     }
-    at
+    Ok(())
 }
 
 // The minus of a product by -1, which the operator of a sum takes the place of.
-fn put_minus(out: &mut [u8], at: usize, n: Node) -> usize {
+fn put_minus<W: Write>(out: &mut W, n: Node) -> io::Result<()> {
     if n.kind == PRODUCT && n.value == -1 && n.role != RIGHT {
-        return put(out, at, b'-');
+        return put(out, b'-');
     }
-    at
+    Ok(())
 }
 
 // What stands before the first leaf of a tree.
-fn put_opening(out: &mut [u8], at: usize, n: Node) -> usize {
-    let next = put_operator(out, at, n);
-    let next = put_parenthesis(out, next, n);
-    put_minus(out, next, n)
+fn put_opening<W: Write>(out: &mut W, n: Node) -> io::Result<()> {
+    put_operator(out, n)?;
+    put_parenthesis(out, n)?;
+    put_minus(out, n)
 }
 
 // The openings of the trees that start at a place and end before another.
-fn put_openings(out: &mut [u8], at: usize, t: Trees, start: usize, end: usize) -> usize {
-    let mut next = at;
-    let mut i = end;
-    while start < i {
-        i -= 1;
+fn put_openings<W: Write>(out: &mut W, t: Trees, start: usize, end: usize) -> io::Result<()> {
+    for i in (start..end).rev() {
         let n = node_at(t, i);
         if n.start == start {
-            next = put_opening(out, next, n);
+            put_opening(out, n)?;
         }
     }
-    next
+    Ok(())
 }
 
 // A variable by its place in the record.
-fn put_variable(out: &mut [u8], at: usize, place: u64) -> usize {
+fn put_variable<W: Write>(out: &mut W, place: u64) -> io::Result<()> {
     if place < 8 {
-        let next = put(out, at, b'd');
-        return decimal(out, next, place);
+        put(out, b'd')?;
+        return decimal(out, place);
     }
-    let next = put(out, at, b's');
-    decimal(out, next, place - 8)
+    put(out, b's')?;
+    decimal(out, place - 8)
 }
 
 // The number of a constant or of a product. Behind a minus, and behind a plus, it has no sign.
-fn put_number(out: &mut [u8], at: usize, n: Node) -> usize {
+fn put_number<W: Write>(out: &mut W, n: Node) -> io::Result<()> {
     if n.role == RIGHT {
-        return decimal(out, at, integer::magnitude(n.value));
+        return decimal(out, integer::magnitude(n.value));
     }
-    signed(out, at, n.value)
+    signed(out, n.value)
 }
 
-fn put_leaf(out: &mut [u8], at: usize, n: Node) -> usize {
+fn put_leaf<W: Write>(out: &mut W, n: Node) -> io::Result<()> {
     if n.kind == VARIABLE {
-        return put_variable(out, at, integer::magnitude(n.value));
+        return put_variable(out, integer::magnitude(n.value));
     }
-    put_number(out, at, n)
+    put_number(out, n)
 }
 
 // The operator of an operation.
-fn put_word(out: &mut [u8], at: usize, kind: u8) -> usize {
+fn put_word<W: Write>(out: &mut W, kind: u8) -> io::Result<()> {
     if kind == FLOORDIV {
-        return text(out, at, b" floordiv ");
+        return text(out, b" floordiv ");
     }
     if kind == MOD {
-        return text(out, at, b" mod ");
+        return text(out, b" mod ");
     }
-    text(out, at, b" * ")
+    text(out, b" * ")
 }
 
 // What stands behind the operand of an operation. A sum and a product by -1 have nothing there.
-fn put_operation(out: &mut [u8], at: usize, n: Node) -> usize {
+fn put_operation<W: Write>(out: &mut W, n: Node) -> io::Result<()> {
     let kind = n.kind;
     if kind == SUM || (kind == PRODUCT && n.value == -1) {
-        return at;
+        return Ok(());
     }
-    let next = put_word(out, at, kind);
-    put_number(out, next, n)
+    put_word(out, kind)?;
+    put_number(out, n)
 }
 
 // What stands behind the last leaf of a tree whose last tree below it is given.
-fn put_ending(out: &mut [u8], at: usize, n: Node, last: Node) -> usize {
+fn put_ending<W: Write>(out: &mut W, n: Node, last: Node) -> io::Result<()> {
     if is_enclosed(last) {
-        let next = put(out, at, b')');
-        return put_operation(out, next, n);
+        put(out, b')')?;
+        return put_operation(out, n);
     }
-    put_operation(out, at, n)
+    put_operation(out, n)
 }
 
 // The part of the text of an expression that a node brings. The expression ends before a place.
-fn put_part(out: &mut [u8], at: usize, t: Trees, i: usize, end: usize) -> usize {
+fn put_part<W: Write>(out: &mut W, t: Trees, i: usize, end: usize) -> io::Result<()> {
     let n = node_at(t, i);
     if is_leaf(n.kind) {
-        let next = put_openings(out, at, t, i, end);
-        return put_leaf(out, next, n);
+        put_openings(out, t, i, end)?;
+        return put_leaf(out, n);
     }
-    put_ending(out, at, n, node_at(t, before(i)))
+    put_ending(out, n, node_at(t, before(i)))
 }
 
 // The expression whose nodes stand from one place to before another.
-pub fn put_expression(out: &mut [u8], at: usize, t: Trees, from: usize, end: usize) -> usize {
-    let mut next = at;
-    let mut i = from;
-    while i < end {
-        next = put_part(out, next, t, i, end);
-        i += 1;
+pub fn put_expression<W: Write>(out: &mut W, t: Trees, from: usize, end: usize) -> io::Result<()> {
+    for i in from..end {
+        put_part(out, t, i, end)?;
     }
-    next
+    Ok(())
 }

@@ -7,14 +7,9 @@ use indexing::{AnsweredMap, IndexingMap};
 use infix::{Trees, put_expression, trees_of};
 use map_reading::place_of;
 use refusal::Verdict;
+use std::io;
+use std::io::Write;
 use writing::{decimal, interval, put, refused, text};
-
-// The next place in the output, and that of the next node.
-#[derive(Clone, Copy)]
-struct Position {
-    at: usize,
-    node: usize,
-}
 
 // Where nodes end that start at a place, at the last place at most.
 fn end_of(from: usize, count: usize) -> usize {
@@ -27,177 +22,169 @@ fn end_of(from: usize, count: usize) -> usize {
 }
 
 // A comma between two items.
-fn put_comma(out: &mut [u8], at: usize, is_first: bool) -> usize {
+fn put_comma<W: Write>(out: &mut W, is_first: bool) -> io::Result<()> {
     if is_first {
-        return at;
+        return Ok(());
     }
-    text(out, at, b", ")
+    text(out, b", ")
 }
 
-fn put_name(out: &mut [u8], at: usize, letter: u8, number: usize) -> usize {
-    let next = put(out, at, letter);
-    decimal(out, next, number as u64)
+fn put_name<W: Write>(out: &mut W, letter: u8, number: usize) -> io::Result<()> {
+    put(out, letter)?;
+    decimal(out, number as u64)
 }
 
 // The names of the variables of a kind.
-fn put_names(out: &mut [u8], at: usize, letter: u8, count: usize) -> usize {
-    let mut next = at;
-    let mut i = 0;
-    while i < count {
-        next = put_comma(out, next, i == 0);
-        next = put_name(out, next, letter, i);
-        i += 1;
+fn put_names<W: Write>(out: &mut W, letter: u8, count: usize) -> io::Result<()> {
+    for i in 0..count {
+        put_comma(out, i == 0)?;
+        put_name(out, letter, i)?;
     }
-    next
+    Ok(())
 }
 
 // The names of all variables, between brackets.
-fn put_head(out: &mut [u8], at: usize, dims: usize, ranges: usize) -> usize {
-    let next = put(out, at, b'(');
-    let next = put_names(out, next, b'd', dims);
-    let next = put(out, next, b')');
+fn put_head<W: Write>(out: &mut W, dims: usize, ranges: usize) -> io::Result<()> {
+    put(out, b'(')?;
+    put_names(out, b'd', dims)?;
+    put(out, b')')?;
     if ranges == 0 {
-        return next;
+        return Ok(());
     }
-    let next = put(out, next, b'[');
-    let next = put_names(out, next, b's', ranges);
-    put(out, next, b']')
+    put(out, b'[')?;
+    put_names(out, b's', ranges)?;
+    put(out, b']')
 }
 
-// An expression of that many nodes.
-fn put_tree(out: &mut [u8], from: Position, t: Trees, count: usize) -> Position {
-    let end = end_of(from.node, count);
-    Position {
-        at: put_expression(out, from.at, t, from.node, end),
-        node: end,
-    }
+// An expression of that many nodes, which start at a place. The answer is the place of the next node.
+fn put_tree<W: Write>(out: &mut W, from: usize, t: Trees, count: usize) -> io::Result<usize> {
+    let end = end_of(from, count);
+    put_expression(out, t, from, end)?;
+    Ok(end)
 }
 
-fn put_result(out: &mut [u8], from: Position, m: IndexingMap, t: Trees, i: usize) -> Position {
+fn put_result<W: Write>(
+    out: &mut W,
+    from: usize,
+    m: IndexingMap,
+    t: Trees,
+    i: usize,
+) -> io::Result<usize> {
     let count = if i < 8 { m.result_nodes[i] } else { 0 };
-    let at = put_comma(out, from.at, i == 0);
-    let node = from.node;
-    put_tree(out, Position { at, node }, t, count)
+    put_comma(out, i == 0)?;
+    put_tree(out, from, t, count)
 }
 
-fn put_results(out: &mut [u8], at: usize, m: IndexingMap, t: Trees) -> Position {
-    let mut next = Position { at, node: 0 };
-    let mut i = 0;
-    while i < m.results {
-        next = put_result(out, next, m, t, i);
-        i += 1;
+fn put_results<W: Write>(out: &mut W, m: IndexingMap, t: Trees) -> io::Result<usize> {
+    let mut next = 0;
+    for i in 0..m.results {
+        next = put_result(out, next, m, t, i)?;
     }
-    next
+    Ok(next)
 }
 
 // The start of a line of the domain, behind the line before it.
-fn start_line(out: &mut [u8], at: usize, is_first: bool) -> usize {
+fn start_line<W: Write>(out: &mut W, is_first: bool) -> io::Result<()> {
     if is_first {
-        return text(out, at, b",\ndomain:\n");
+        return text(out, b",\ndomain:\n");
     }
-    text(out, at, b",\n")
+    text(out, b",\n")
 }
 
 // The word `in` and an interval.
-fn put_interval(out: &mut [u8], at: usize, lower: i64, upper: i64) -> usize {
-    let next = text(out, at, b" in ");
-    interval(out, next, lower, upper)
+fn put_interval<W: Write>(out: &mut W, lower: i64, upper: i64) -> io::Result<()> {
+    text(out, b" in ")?;
+    interval(out, lower, upper)
 }
 
 // The name and the bounds of a variable.
-fn put_bound(out: &mut [u8], at: usize, m: IndexingMap, letter: u8, number: usize) -> usize {
-    let next = put_name(out, at, letter, number);
+fn put_bound<W: Write>(out: &mut W, m: IndexingMap, letter: u8, number: usize) -> io::Result<()> {
+    put_name(out, letter, number)?;
     let place = place_of(letter, number);
     if place < 24 {
-        return put_interval(out, next, m.lower[place], m.upper[place]);
+        return put_interval(out, m.lower[place], m.upper[place]);
     }
-    next
+    Ok(())
 }
 
 // A line for each variable of a kind. The domain may start with them.
-fn put_bounds(
-    out: &mut [u8],
-    at: usize,
+fn put_bounds<W: Write>(
+    out: &mut W,
     m: IndexingMap,
     letter: u8,
     count: usize,
     is_start: bool,
-) -> usize {
-    let mut next = at;
-    let mut i = 0;
-    while i < count {
-        next = start_line(out, next, is_start && i == 0);
-        next = put_bound(out, next, m, letter, i);
-        i += 1;
+) -> io::Result<()> {
+    for i in 0..count {
+        start_line(out, is_start && i == 0)?;
+        put_bound(out, m, letter, i)?;
     }
-    next
+    Ok(())
 }
 
-fn put_constraint(out: &mut [u8], from: Position, m: IndexingMap, t: Trees, i: usize) -> Position {
+fn put_constraint<W: Write>(
+    out: &mut W,
+    from: usize,
+    m: IndexingMap,
+    t: Trees,
+    i: usize,
+) -> io::Result<usize> {
     if 32 <= i {
-        return from;
+        return Ok(from);
     }
-    let tree = put_tree(out, from, t, m.constraint_nodes[i]);
-    Position {
-        at: put_interval(out, tree.at, m.constraint_lower[i], m.constraint_upper[i]),
-        node: tree.node,
-    }
+    let next = put_tree(out, from, t, m.constraint_nodes[i])?;
+    put_interval(out, m.constraint_lower[i], m.constraint_upper[i])?;
+    Ok(next)
 }
 
-// A line for each constraint. The domain may start with them.
-fn put_constraints(
-    out: &mut [u8],
-    from: Position,
+// A line for each constraint, whose nodes start at a place. The domain may start with them.
+fn put_constraints<W: Write>(
+    out: &mut W,
+    from: usize,
     m: IndexingMap,
     t: Trees,
     is_start: bool,
-) -> usize {
+) -> io::Result<()> {
     let mut next = from;
-    let mut i = 0;
-    while i < m.constraints {
-        let at = start_line(out, next.at, is_start && i == 0);
-        let node = next.node;
-        next = put_constraint(out, Position { at, node }, m, t, i);
-        i += 1;
+    for i in 0..m.constraints {
+        start_line(out, is_start && i == 0)?;
+        next = put_constraint(out, next, m, t, i)?;
     }
-    next.at
+    Ok(())
 }
 
-// The head and the results.
-fn put_first_line(out: &mut [u8], at: usize, m: IndexingMap, t: Trees) -> Position {
-    let next = put_head(out, at, m.dims, m.ranges);
-    let next = text(out, next, b" -> (");
-    let results = put_results(out, next, m, t);
-    Position {
-        at: put(out, results.at, b')'),
-        node: results.node,
-    }
+// The head and the results. The answer is the place of the next node.
+fn put_first_line<W: Write>(out: &mut W, m: IndexingMap, t: Trees) -> io::Result<usize> {
+    put_head(out, m.dims, m.ranges)?;
+    text(out, b" -> (")?;
+    let next = put_results(out, m, t)?;
+    put(out, b')')?;
+    Ok(next)
 }
 
 // The bounds of all variables.
-fn put_variables(out: &mut [u8], at: usize, m: IndexingMap) -> usize {
-    let next = put_bounds(out, at, m, b'd', m.dims, true);
-    put_bounds(out, next, m, b's', m.ranges, m.dims == 0)
+fn put_variables<W: Write>(out: &mut W, m: IndexingMap) -> io::Result<()> {
+    put_bounds(out, m, b'd', m.dims, true)?;
+    put_bounds(out, m, b's', m.ranges, m.dims == 0)
 }
 
-// Prints a map at a place of the output, and answers the next place.
-pub fn print_map(out: &mut [u8], at: usize, m: IndexingMap) -> usize {
+// Prints a map.
+pub fn print_map<W: Write>(out: &mut W, m: IndexingMap) -> io::Result<()> {
     let kinds = m.kinds;
     let values = m.values;
     let t = trees_of(kinds, values);
-    let first = put_first_line(out, at, m, t);
-    let next = put_variables(out, first.at, m);
-    let node = first.node;
+    let next = put_first_line(out, m, t)?;
+    put_variables(out, m)?;
     let is_start = m.dims == 0 && m.ranges == 0;
-    put_constraints(out, Position { at: next, node }, m, t, is_start)
+    put_constraints(out, next, m, t, is_start)
 }
 
 // Prints the answer of a call that hands out a map: the map, or the refusal.
-pub fn print_answer(out: &mut [u8], at: usize, answer: AnsweredMap) -> usize {
+pub fn print_answer<W: Write>(out: &mut W, answer: AnsweredMap) -> io::Result<()> {
     let verdict = answer.verdict;
     let map = answer.map;
     match verdict {
-        Verdict::Done => print_map(out, at, map),
-        Verdict::Refused(r) => refused(out, at, r),
+        Verdict::Done => print_map(out, map),
+        Verdict::Refused(r) => refused(out, r),
     }
 }

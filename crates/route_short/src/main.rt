@@ -4,10 +4,10 @@
 #![tactic(auto)]
 
 use layout::Layout;
-use libc::STDOUT_FILENO;
 use refusal::Verdict;
 use route::{Route, Station};
 use shape::Shape;
+use std::io;
 
 // A station with a parent that lists the untiled layout of a table of rank 1, so many times.
 fn station(parent: usize, count: usize) -> Station {
@@ -36,36 +36,23 @@ fn through(lent: usize, number: usize, parent: usize, count: usize) -> Route {
     route::best_route_of(shape, stations, lent, number, 100, 0)
 }
 
-fn write_number(n: u64) {
-    let mut digits = [0u8; 20];
-    let k = io::decimal(n, &mut digits);
-    io::write_all(STDOUT_FILENO, &digits[0..k]);
-    io::write_all(STDOUT_FILENO, b"\n");
-}
-
 // The total, or the refusal's number.
-fn show(answer: Route) {
+fn show(rt: &HostRuntime, answer: Route) -> io::Result<()> {
     let verdict = answer.verdict;
     match verdict {
-        Verdict::Done => {
-            io::write_all(STDOUT_FILENO, b"total ");
-            write_number(answer.total)
-        }
-        Verdict::Refused(r) => {
-            io::write_all(STDOUT_FILENO, b"refused ");
-            write_number(refusal::number(r))
-        }
+        Verdict::Done => println!(rt; "total {}", answer.total),
+        Verdict::Refused(r) => println!(rt; "refused {}", refusal::number(r)),
     }
 }
 
-fn main() {
-    show(through(3, 3, 0, 1));
-    show(through(2, 3, 0, 1));
-    show(through(0, 1, 0, 1));
-    show(through(64, 64, 0, 1));
-    show(through(2, 3, 0, 2));
-    show(through(0, 1, 0, 2));
-    show(through(2, 3, 1, 1));
-    show(through(1, 3, 1, 1));
-    show(through(1, 1, 1, 1));
+fn main(rt: HostRuntime) -> io::Result<()> {
+    show(&rt, through(3, 3, 0, 1))?;
+    show(&rt, through(2, 3, 0, 1))?;
+    show(&rt, through(0, 1, 0, 1))?;
+    show(&rt, through(64, 64, 0, 1))?;
+    show(&rt, through(2, 3, 0, 2))?;
+    show(&rt, through(0, 1, 0, 2))?;
+    show(&rt, through(2, 3, 1, 1))?;
+    show(&rt, through(1, 3, 1, 1))?;
+    show(&rt, through(1, 1, 1, 1))
 }

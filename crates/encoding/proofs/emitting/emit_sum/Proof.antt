@@ -3,9 +3,6 @@ use borrow.Author.Rules.{rules}
 use Rattle.encoding.proofs.Emitted.{of-sum}
 use Rattle.encoding.proofs.emitting.emit_sum.Statement.{statement}
 use Rattle.encoding.proofs.emitting.emit_sum.Tie as tie
-use Rattle.encoding.proofs.emitting.emit_sum.Reads as reads
-use Rattle.encoding.proofs.emitting.emit_sum.Lts as lts
-use Rattle.encoding.proofs.emitting.emit_terms.Reads as emit-terms-reads
 
 emit-terms-requires : tie.Need-emit_terms-requires
 emit-terms-requires c κs = search rules

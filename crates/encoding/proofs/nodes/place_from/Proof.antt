@@ -8,8 +8,6 @@ use Rattle.encoding.proofs.Variables.{place_in, place_out}
 use borrow.Author.Rules.{rules}
 use Rattle.encoding.proofs.nodes.place_from.Statement.{statement}
 use Rattle.encoding.proofs.nodes.place_from.Tie as tie
-use Rattle.encoding.proofs.nodes.place_from.Reads as reads
-use Rattle.encoding.proofs.nodes.place_from.Lts as lts
 
 add-result : tie.Need-overflow_add-result
 add-result c = search rules

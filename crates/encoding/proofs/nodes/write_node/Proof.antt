@@ -4,11 +4,6 @@ use Rattle.encoding.proofs.Stored.{one}
 use borrow.Author.Rules.{rules, sfits_of}
 use Rattle.encoding.proofs.nodes.write_node.Statement.{statement}
 use Rattle.encoding.proofs.nodes.write_node.Tie as tie
-use Rattle.encoding.proofs.nodes.write_node.Reads as reads
-use Rattle.encoding.proofs.nodes.write_node.Lts as lts
-use Rattle.encoding.proofs.nodes.kind_of.Reads as kind-of-reads
-use Rattle.encoding.proofs.nodes.value_of.Reads as value-of-reads
-use Rattle.encoding.proofs.writing.put_node.Reads as put-node-reads
 
 kind-of-requires : tie.Need-kind_of-requires
 kind-of-requires c κs = search rules

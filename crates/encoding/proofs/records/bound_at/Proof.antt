@@ -5,8 +5,6 @@ use mir.Facts.{to_z-of_z}
 use Rattle.encoding.proofs.KeptBounds.{bound-dim, bound-past-dims, bound-ranged, bound-past-ranges}
 use Rattle.encoding.proofs.records.bound_at.Statement.{statement}
 use Rattle.encoding.proofs.records.bound_at.Tie as tie
-use Rattle.encoding.proofs.records.bound_at.Reads as reads
-use Rattle.encoding.proofs.records.bound_at.Lts as lts
 
 mul-result : tie.Need-offset_bounds-bounds-place
 mul-result c = search rules

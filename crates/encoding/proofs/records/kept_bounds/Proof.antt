@@ -12,9 +12,6 @@ use Rattle.encoding.proofs.KeptBounds.{bounds-all}
 use Rattle.encoding.proofs.Listed.{entry_next}
 use Rattle.encoding.proofs.records.kept_bounds.Statement.{statement}
 use Rattle.encoding.proofs.records.kept_bounds.Tie as tie
-use Rattle.encoding.proofs.records.kept_bounds.Reads as reads
-use Rattle.encoding.proofs.records.kept_bounds.Lts as lts
-use Rattle.encoding.proofs.records.bound_at.Reads as bound-at-reads
 
 abbrev invariant-loop : tie.invariant-loop-i
 invariant-loop bounds dims ranges out₀ i₀ out i =

@@ -2,8 +2,6 @@
 use native.Mathlib.Omega.{arith}
 use Rattle.encoding.proofs.writing.next_place.Statement.{statement}
 use Rattle.encoding.proofs.writing.next_place.Tie as tie
-use Rattle.encoding.proofs.writing.next_place.Reads as reads
-use Rattle.encoding.proofs.writing.next_place.Lts as lts
 
 add-result : tie.Need-overflow_add-result
 add-result c = omega arith

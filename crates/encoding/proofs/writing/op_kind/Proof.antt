@@ -2,8 +2,6 @@
 use Rattle.encoding.proofs.Variables.{of-floordiv, of-mod}
 use Rattle.encoding.proofs.writing.op_kind.Statement.{statement}
 use Rattle.encoding.proofs.writing.op_kind.Tie as tie
-use Rattle.encoding.proofs.writing.op_kind.Reads as reads
-use Rattle.encoding.proofs.writing.op_kind.Lts as lts
 
 returns : tie.Need-returns-then-op-eq3
 returns c = of-floordiv _ c.if-op-eq3.true

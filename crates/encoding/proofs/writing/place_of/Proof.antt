@@ -6,8 +6,6 @@ use native.Mathlib.Omega.{arith}
 use Rattle.encoding.proofs.Variables.{of-dim, of_range, of-runtime, of_none}
 use Rattle.encoding.proofs.writing.place_of.Statement.{statement}
 use Rattle.encoding.proofs.writing.place_of.Tie as tie
-use Rattle.encoding.proofs.writing.place_of.Reads as reads
-use Rattle.encoding.proofs.writing.place_of.Lts as lts
 
 cast-result : tie.Need-overflow_cast-result
 cast-result c = search rules

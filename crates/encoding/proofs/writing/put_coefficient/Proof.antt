@@ -4,10 +4,6 @@ use mir.Facts.{to_z-of_z}
 use Rattle.encoding.proofs.Stored.{coefficient-alone, coefficient-joined}
 use Rattle.encoding.proofs.writing.put_coefficient.Statement.{statement}
 use Rattle.encoding.proofs.writing.put_coefficient.Tie as tie
-use Rattle.encoding.proofs.writing.put_coefficient.Reads as reads
-use Rattle.encoding.proofs.writing.put_coefficient.Lts as lts
-use Rattle.encoding.proofs.writing.put_factor.Reads as put-factor-reads
-use Rattle.encoding.proofs.writing.put_node.Reads as put-node-reads
 
 put-factor-requires : tie.Need-put_factor-end-requires
 put-factor-requires c κs = search rules

@@ -7,9 +7,6 @@ use mir.Facts.{to_z-of_z}
 use Rattle.encoding.proofs.Stored.{constant-alone, constant-zero, constant-joined}
 use Rattle.encoding.proofs.writing.put_constant.Statement.{statement}
 use Rattle.encoding.proofs.writing.put_constant.Tie as tie
-use Rattle.encoding.proofs.writing.put_constant.Reads as reads
-use Rattle.encoding.proofs.writing.put_constant.Lts as lts
-use Rattle.encoding.proofs.writing.put_node.Reads as put-node-reads
 
 put-node-requires : tie.Need-put_node-requires
 put-node-requires c κs = search rules

@@ -9,9 +9,6 @@ use Rattle.expression.specs.declared.One.TheVariants.{Product}
 use Rattle.encoding.proofs.Stored.{nothing, one, factor-one, factor-other}
 use Rattle.encoding.proofs.writing.put_factor.Statement.{statement}
 use Rattle.encoding.proofs.writing.put_factor.Tie as tie
-use Rattle.encoding.proofs.writing.put_factor.Reads as reads
-use Rattle.encoding.proofs.writing.put_factor.Lts as lts
-use Rattle.encoding.proofs.writing.put_node.Reads as put-node-reads
 
 returns : tie.Need-returns-then-factor-eq1
 returns c =

@@ -4,8 +4,6 @@ use mathlib.Core.Path.{sym}
 use lib.Seq.{set_out}
 use Rattle.encoding.proofs.writing.put_kind.Statement.{statement}
 use Rattle.encoding.proofs.writing.put_kind.Tie as tie
-use Rattle.encoding.proofs.writing.put_kind.Reads as reads
-use Rattle.encoding.proofs.writing.put_kind.Lts as lts
 
 slice-write-kinds : tie.Need-bounds-kinds-at
 slice-write-kinds c = search rules

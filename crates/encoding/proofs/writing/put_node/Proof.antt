@@ -3,11 +3,6 @@ use borrow.Author.Rules.{rules}
 use mir.Facts.{to_z-of_z}
 use Rattle.encoding.proofs.writing.put_node.Statement.{statement}
 use Rattle.encoding.proofs.writing.put_node.Tie as tie
-use Rattle.encoding.proofs.writing.put_node.Reads as reads
-use Rattle.encoding.proofs.writing.put_node.Lts as lts
-use Rattle.encoding.proofs.writing.next_place.Reads as next-place-reads
-use Rattle.encoding.proofs.writing.put_kind.Reads as put-kind-reads
-use Rattle.encoding.proofs.writing.put_value.Reads as put-value-reads
 
 put-kind-requires : tie.Need-put_kind-requires
 put-kind-requires c κs = search rules

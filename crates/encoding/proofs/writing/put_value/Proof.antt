@@ -4,8 +4,6 @@ use mathlib.Core.Path.{sym}
 use lib.Seq.{set_out}
 use Rattle.encoding.proofs.writing.put_value.Statement.{statement}
 use Rattle.encoding.proofs.writing.put_value.Tie as tie
-use Rattle.encoding.proofs.writing.put_value.Reads as reads
-use Rattle.encoding.proofs.writing.put_value.Lts as lts
 
 mul-value : tie.Need-offset_bounds-values-at
 mul-value c = search rules

@@ -16,22 +16,20 @@ use Rattle.expression.proofs.reckoning.mod_range.Goals as goal
 
 pub returns-then-p-q : goal.returns-then-p-q
 returns-then-p-q c =
-    let s = c in
-    let p = rw (to_z-of_z s.ranges.lo, to_z-of_z s.ranges.c) at c.floor_div-p.ensures in
-    let q = rw (to_z-of_z s.ranges.hi, to_z-of_z s.ranges.c) at c.floor_div-q.ensures in
+    let p = rw (to_z-of_z c.ranges.lo, to_z-of_z c.ranges.c) at c.floor_div-p.ensures in
+    let q = rw (to_z-of_z c.ranges.hi, to_z-of_z c.ranges.c) at c.floor_div-q.ensures in
     let fp = to_z-of_z {w = w64} (sfits_of c.floor_div-p.type_inv) in
     let fq = to_z-of_z {w = w64} (sfits_of c.floor_div-q.type_inv) in
     let e = sym p ∙ sym fp ∙ ap (to_z w64) c.if-p-q.true ∙ fq ∙ q in
-    let a = rw (to_z-of_z s.ranges.lo, to_z-of_z s.ranges.c) at c.floor_mod-a.ensures in
-    let b = rw (to_z-of_z s.ranges.hi, to_z-of_z s.ranges.c) at c.floor_mod-b.ensures in
-    rw (to_z-of_z (sfits_of c.floor_mod-a.type_inv), to_z-of_z (sfits_of c.floor_mod-b.type_inv), a, b) (mod_same s.args.lo s.args.hi (nat_abs s.args.c) (abs-above-0 _ s.requires.0.0) s.requires.0.1 e)
+    let a = rw (to_z-of_z c.ranges.lo, to_z-of_z c.ranges.c) at c.floor_mod-a.ensures in
+    let b = rw (to_z-of_z c.ranges.hi, to_z-of_z c.ranges.c) at c.floor_mod-b.ensures in
+    rw (to_z-of_z (sfits_of c.floor_mod-a.type_inv), to_z-of_z (sfits_of c.floor_mod-b.type_inv), a, b) (mod_same c.args.lo c.args.hi (nat_abs c.args.c) (abs-above-0 _ c.requires.0.0) c.requires.0.1 e)
 
 pub returns : goal.returns
 returns c =
-    let s = c in
-    let p = rw (to_z-of_z s.ranges.lo, to_z-of_z s.ranges.c) at c.floor_div-p.ensures in
-    let q = rw (to_z-of_z s.ranges.hi, to_z-of_z s.ranges.c) at c.floor_div-q.ensures in
-    let h : nat_abs s.args.c ≤ max_divisor = s.requires.0.1 in
-    let z = abs-above-0 _ s.requires.0.0 in
-    let k : nat_abs s.args.c - 1 ≤ limit = omega arith in
-    rw (to_z-of_z s.ranges.c, pred-is s.args.c s.requires.0.0, to_z-of_z {w = w64} {z = pos (nat_abs s.args.c - 1)} (small-fits (pos (nat_abs s.args.c - 1)) k)) (mod-other s.args.lo s.args.hi (nat_abs s.args.c) h (λ e. c.if-p-q.false (ap (of_z w64) (p ∙ e ∙ sym q))))
+    let p = rw (to_z-of_z c.ranges.lo, to_z-of_z c.ranges.c) at c.floor_div-p.ensures in
+    let q = rw (to_z-of_z c.ranges.hi, to_z-of_z c.ranges.c) at c.floor_div-q.ensures in
+    let h : nat_abs c.args.c ≤ max_divisor = c.requires.0.1 in
+    let z = abs-above-0 _ c.requires.0.0 in
+    let k : nat_abs c.args.c - 1 ≤ limit = omega arith in
+    rw (to_z-of_z c.ranges.c, pred-is c.args.c c.requires.0.0, to_z-of_z {w = w64} {z = pos (nat_abs c.args.c - 1)} (small-fits (pos (nat_abs c.args.c - 1)) k)) (mod-other c.args.lo c.args.hi (nat_abs c.args.c) h (λ e. c.if-p-q.false (ap (of_z w64) (p ∙ e ∙ sym q))))

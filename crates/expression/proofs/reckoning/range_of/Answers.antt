@@ -22,75 +22,59 @@ loop-i-init c = (omega arith, (omega arith, (omega arith, (omega arith, (record 
 
 pub step_range-requires : goal.step_range-requires
 step_range-requires c =
-    let n = c in
-    let l = n in
-    let s = l in
-    let a = s.args in
-    let h : l.loop-i.i < a.from + a.count = omega arith in
-    let e = rw (to_z-of_z (sfits_of n.node_of-arg-1.given)) at n.node_of-node.ensures in
-    let w = range-fed a.lower.now a.upper.now _ s.requires.whole in
+    let a = c.args in
+    let h : c.loop-i.i < a.from + a.count = omega arith in
+    let e = rw (to_z-of_z (sfits_of c.node_of-arg-1.given)) at c.node_of-node.ensures in
+    let w = range-fed a.lower.now a.upper.now _ c.requires.whole in
     rw e
     (record {
-      long-lower = s.requires.long-lower;
-      long-upper = s.requires.long-upper;
+      long-lower = c.requires.long-lower;
+      long-upper = c.requires.long-upper;
       sound = node-sound max_variables max_variables a.dims a.ranges _ _ (λ n u v. v) (λ n u v. v);
       room = omega arith;
       within = omega arith;
-      stacks = l.loop-i.invariant.1.1.1.1.0;
-      small-lower = node-small a.lower.now a.dims a.ranges _ _ s.requires.small-lower;
-      small-upper = node-small a.upper.now a.dims a.ranges _ _ s.requires.small-upper;
-      fed = loop-fed (range_alg a.lower.now a.upper.now) a.dims a.ranges a.kinds.now a.values.now l.loop-i.i (a.from + a.count) (drop l.loop-i.top (zip_ranges l.loop-i.los l.loop-i.his)) _ l.loop-i.invariant.1.1.1.1.1 h w;
+      stacks = c.loop-i.invariant.1.1.1.1.0;
+      small-lower = node-small a.lower.now a.dims a.ranges _ _ c.requires.small-lower;
+      small-upper = node-small a.upper.now a.dims a.ranges _ _ c.requires.small-upper;
+      fed = loop-fed (range_alg a.lower.now a.upper.now) a.dims a.ranges a.kinds.now a.values.now c.loop-i.i (a.from + a.count) (drop c.loop-i.top (zip_ranges c.loop-i.los c.loop-i.his)) _ c.loop-i.invariant.1.1.1.1.1 h w;
     })
 
 pub returns-in-Over : goal.returns-in-Over
 returns-in-Over c =
-    let n = c in
-    let l = n in
-    let s = l in
-    let a = s.args in
-    let h : l.loop-i.i < a.from + a.count = omega arith in
-    let e = rw (to_z-of_z (sfits_of n.node_of-arg-1.given)) at n.node_of-node.ensures in
+    let a = c.args in
+    let h : c.loop-i.i < a.from + a.count = omega arith in
+    let e = rw (to_z-of_z (sfits_of c.node_of-arg-1.given)) at c.node_of-node.ensures in
     let q = rw (c.in-Over.is, e) at c.step_range.ensures.his_after in
-    ap reckoned (loop-over (range_alg a.lower.now a.upper.now) a.dims a.ranges a.kinds.now a.values.now l.loop-i.i (a.from + a.count) (drop l.loop-i.top (zip_ranges l.loop-i.los l.loop-i.his)) _ l.loop-i.invariant.1.1.1.1.1 h q) ∙ range-is a.lower.now a.upper.now _ s.requires.whole
+    ap reckoned (loop-over (range_alg a.lower.now a.upper.now) a.dims a.ranges a.kinds.now a.values.now c.loop-i.i (a.from + a.count) (drop c.loop-i.top (zip_ranges c.loop-i.los c.loop-i.his)) _ c.loop-i.invariant.1.1.1.1.1 h q) ∙ range-is a.lower.now a.upper.now _ c.requires.whole
 
 pub loop-i-preserved : goal.loop-i-preserved
 loop-i-preserved c =
-    let n = c in
-    let l = n in
-    let s = l in
-    let a = s.args in
-    let h : l.loop-i.i < a.from + a.count = omega arith in
-    let e = rw (to_z-of_z (sfits_of n.node_of-arg-1.given)) at n.node_of-node.ensures in
-    let x = c in
-    let q = rw (c.in-At.is, e) at x.step_range.ensures.his_after in
+    let a = c.args in
+    let h : c.loop-i.i < a.from + a.count = omega arith in
+    let e = rw (to_z-of_z (sfits_of c.node_of-arg-1.given)) at c.node_of-node.ensures in
+    let q = rw (c.in-At.is, e) at c.step_range.ensures.his_after in
     let t = c.in-At.t in
-    let m : (t ≤ max_nodes) × (l.loop-i.top ≤ t + 1) = rw c.in-At.is at x.step_range.ensures.near.0 in
-    (omega arith, (omega arith, (m.0, (near t l.loop-i.top l.loop-i.i a.from m.1 l.loop-i.invariant.1.1.1.0 l.loop-i.invariant.0, (x.step_range.ensures.near.1, loop-turn (range_alg a.lower.now a.upper.now) a.dims a.ranges a.kinds.now a.values.now l.loop-i.i (a.from + a.count) (drop l.loop-i.top (zip_ranges l.loop-i.los l.loop-i.his)) _ l.loop-i.invariant.1.1.1.1.1 h _ q)))))
+    let m : (t ≤ max_nodes) × (c.loop-i.top ≤ t + 1) = rw c.in-At.is at c.step_range.ensures.near.0 in
+    (omega arith, (omega arith, (m.0, (near t c.loop-i.top c.loop-i.i a.from m.1 c.loop-i.invariant.1.1.1.0 c.loop-i.invariant.0, (c.step_range.ensures.near.1, loop-turn (range_alg a.lower.now a.upper.now) a.dims a.ranges a.kinds.now a.values.now c.loop-i.i (a.from + a.count) (drop c.loop-i.top (zip_ranges c.loop-i.los c.loop-i.his)) _ c.loop-i.invariant.1.1.1.1.1 h _ q)))))
 
 pub bounds-los-top : goal.bounds-los-top
 bounds-los-top c =
-    let l = c in
-    let s = l in
-    let a = s.args in
-    let w = range-fed a.lower.now a.upper.now _ s.requires.whole in
-    let o = loop-last (range_alg a.lower.now a.upper.now) a.dims a.ranges a.kinds.now a.values.now l.loop-i.i (a.from + a.count) (drop l.loop-i.top (zip_ranges l.loop-i.los l.loop-i.his)) _ l.loop-i.invariant.1.1.1.1.1 c.loop-i-test.false in
-    let f = ends l.loop-i.los l.loop-i.his l.loop-i.top l.loop-i.invariant.1.1.1.1.0 l.loop-i.invariant.1.1.0 (subst Fed (sym o) w) in f.0
+    let a = c.args in
+    let w = range-fed a.lower.now a.upper.now _ c.requires.whole in
+    let o = loop-last (range_alg a.lower.now a.upper.now) a.dims a.ranges a.kinds.now a.values.now c.loop-i.i (a.from + a.count) (drop c.loop-i.top (zip_ranges c.loop-i.los c.loop-i.his)) _ c.loop-i.invariant.1.1.1.1.1 c.loop-i-test.false in
+    let f = ends c.loop-i.los c.loop-i.his c.loop-i.top c.loop-i.invariant.1.1.1.1.0 c.loop-i.invariant.1.1.0 (subst Fed (sym o) w) in f.0
 
 pub bounds-his-top : goal.bounds-his-top
 bounds-his-top c =
-    let l = c in
-    let s = l in
-    let a = s.args in
-    let w = range-fed a.lower.now a.upper.now _ s.requires.whole in
-    let o = loop-last (range_alg a.lower.now a.upper.now) a.dims a.ranges a.kinds.now a.values.now l.loop-i.i (a.from + a.count) (drop l.loop-i.top (zip_ranges l.loop-i.los l.loop-i.his)) _ l.loop-i.invariant.1.1.1.1.1 c.loop-i-test.false in
-    let f = ends l.loop-i.los l.loop-i.his l.loop-i.top l.loop-i.invariant.1.1.1.1.0 l.loop-i.invariant.1.1.0 (subst Fed (sym o) w) in f.0
+    let a = c.args in
+    let w = range-fed a.lower.now a.upper.now _ c.requires.whole in
+    let o = loop-last (range_alg a.lower.now a.upper.now) a.dims a.ranges a.kinds.now a.values.now c.loop-i.i (a.from + a.count) (drop c.loop-i.top (zip_ranges c.loop-i.los c.loop-i.his)) _ c.loop-i.invariant.1.1.1.1.1 c.loop-i-test.false in
+    let f = ends c.loop-i.los c.loop-i.his c.loop-i.top c.loop-i.invariant.1.1.1.1.0 c.loop-i.invariant.1.1.0 (subst Fed (sym o) w) in f.0
 
 pub returns : goal.returns
 returns c =
-    let l = c in
-    let s = l in
-    let a = s.args in
-    let w = range-fed a.lower.now a.upper.now _ s.requires.whole in
-    let o = loop-last (range_alg a.lower.now a.upper.now) a.dims a.ranges a.kinds.now a.values.now l.loop-i.i (a.from + a.count) (drop l.loop-i.top (zip_ranges l.loop-i.los l.loop-i.his)) _ l.loop-i.invariant.1.1.1.1.1 c.loop-i-test.false in
-    let f = ends l.loop-i.los l.loop-i.his l.loop-i.top l.loop-i.invariant.1.1.1.1.0 l.loop-i.invariant.1.1.0 (subst Fed (sym o) w) in
-    rw (to_z-of_z (sfits_of c.result-1.given), to_z-of_z (sfits_of c.result-2-1.given)) (f.1 ∙ ap reckoned o ∙ range-is a.lower.now a.upper.now _ s.requires.whole)
+    let a = c.args in
+    let w = range-fed a.lower.now a.upper.now _ c.requires.whole in
+    let o = loop-last (range_alg a.lower.now a.upper.now) a.dims a.ranges a.kinds.now a.values.now c.loop-i.i (a.from + a.count) (drop c.loop-i.top (zip_ranges c.loop-i.los c.loop-i.his)) _ c.loop-i.invariant.1.1.1.1.1 c.loop-i-test.false in
+    let f = ends c.loop-i.los c.loop-i.his c.loop-i.top c.loop-i.invariant.1.1.1.1.0 c.loop-i.invariant.1.1.0 (subst Fed (sym o) w) in
+    rw (to_z-of_z (sfits_of c.result-1.given), to_z-of_z (sfits_of c.result-2-1.given)) (f.1 ∙ ap reckoned o ∙ range-is a.lower.now a.upper.now _ c.requires.whole)

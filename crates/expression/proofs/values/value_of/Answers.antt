@@ -15,44 +15,36 @@ use Rattle.expression.proofs.values.value_of.Goals as goal
 
 pub step_value-top-requires : goal.step_value-top-requires
 step_value-top-requires c =
-    let n = c in
-    let l = c in
-    let s = l in
-    let a = s.args in
-    let h : l.loop-i.i < a.from + a.count = omega arith in
-    let e = rw (to_z-of_z (sfits_of n.node_of-arg-1.given)) at n.node_of-node.ensures in
+    let a = c.args in
+    let h : c.loop-i.i < a.from + a.count = omega arith in
+    let e = rw (to_z-of_z (sfits_of c.node_of-arg-1.given)) at c.node_of-node.ensures in
     rw e
     (record {
       sound = node-sound _ _ (length a.ds.now) (length a.ss.now) _ _ (λ n u v. u) (λ n u v. u);
       room = omega arith;
       within = omega arith;
-      long = l.loop-i.invariant.1.1.1.1.1.0;
-      ready = loop-ready (value_alg a.ds.now a.ss.now) (length a.ds.now) (length a.ss.now) a.kinds.now a.values.now l.loop-i.i (a.from + a.count) (drop l.loop-i.top l.loop-i.items) _ l.loop-i.invariant.1.1.1.1.1.1 h s.requires.whole;
+      long = c.loop-i.invariant.1.1.1.1.1.0;
+      ready = loop-ready (value_alg a.ds.now a.ss.now) (length a.ds.now) (length a.ss.now) a.kinds.now a.values.now c.loop-i.i (a.from + a.count) (drop c.loop-i.top c.loop-i.items) _ c.loop-i.invariant.1.1.1.1.1.1 h c.requires.whole;
     })
 
 pub loop-i-preserved : goal.loop-i-preserved
 loop-i-preserved c =
-    let n = c in
-    let l = c in
-    let s = l in
-    let a = s.args in
-    let h : l.loop-i.i < a.from + a.count = omega arith in
-    let e = rw (to_z-of_z (sfits_of n.node_of-arg-1.given)) at n.node_of-node.ensures in
+    let a = c.args in
+    let h : c.loop-i.i < a.from + a.count = omega arith in
+    let e = rw (to_z-of_z (sfits_of c.node_of-arg-1.given)) at c.node_of-node.ensures in
     let q = rw e at c.step_value-top.ensures.after in
-    (refl, (omega arith, (omega arith, (omega arith, (omega arith, (c.step_value-top.ensures.upper_bound.1.1, loop-turn (value_alg a.ds.now a.ss.now) (length a.ds.now) (length a.ss.now) a.kinds.now a.values.now l.loop-i.i (a.from + a.count) (drop l.loop-i.top l.loop-i.items) _ l.loop-i.invariant.1.1.1.1.1.1 h _ q))))))
+    (refl, (omega arith, (omega arith, (omega arith, (omega arith, (c.step_value-top.ensures.upper_bound.1.1, loop-turn (value_alg a.ds.now a.ss.now) (length a.ds.now) (length a.ss.now) a.kinds.now a.values.now c.loop-i.i (a.from + a.count) (drop c.loop-i.top c.loop-i.items) _ c.loop-i.invariant.1.1.1.1.1.1 h _ q))))))
 
 pub bounds-items-top : goal.bounds-items-top
 bounds-items-top c =
-    let l = c in
-    let a = l.args in
-    let o = loop-last (value_alg a.ds.now a.ss.now) (length a.ds.now) (length a.ss.now) a.kinds.now a.values.now l.loop-i.i (a.from + a.count) (drop l.loop-i.top l.loop-i.items) _ l.loop-i.invariant.1.1.1.1.1.1 c.loop-i-test.false in
-    let n = l.loop-i.invariant.1.1.1.1.1.0 in
-    omega (arith, (one_left l.loop-i.items l.loop-i.top (pos 0) (omega arith) (subst Whole (sym o) l.requires.whole)).0)
+    let a = c.args in
+    let o = loop-last (value_alg a.ds.now a.ss.now) (length a.ds.now) (length a.ss.now) a.kinds.now a.values.now c.loop-i.i (a.from + a.count) (drop c.loop-i.top c.loop-i.items) _ c.loop-i.invariant.1.1.1.1.1.1 c.loop-i-test.false in
+    let n = c.loop-i.invariant.1.1.1.1.1.0 in
+    omega (arith, (one_left c.loop-i.items c.loop-i.top (pos 0) (omega arith) (subst Whole (sym o) c.requires.whole)).0)
 
 pub returns : goal.returns
 returns c =
-    let l = c in
-    let a = l.args in
-    let o = loop-last (value_alg a.ds.now a.ss.now) (length a.ds.now) (length a.ss.now) a.kinds.now a.values.now l.loop-i.i (a.from + a.count) (drop l.loop-i.top l.loop-i.items) _ l.loop-i.invariant.1.1.1.1.1.1 c.loop-i-test.false in
-    let n = l.loop-i.invariant.1.1.1.1.1.0 in
-    rw (← o) (to_z-of_z {w = w64} (sfits_of c.result-1.given) ∙ (one_left l.loop-i.items l.loop-i.top (pos 0) (omega arith) (subst Whole (sym o) l.requires.whole)).1)
+    let a = c.args in
+    let o = loop-last (value_alg a.ds.now a.ss.now) (length a.ds.now) (length a.ss.now) a.kinds.now a.values.now c.loop-i.i (a.from + a.count) (drop c.loop-i.top c.loop-i.items) _ c.loop-i.invariant.1.1.1.1.1.1 c.loop-i-test.false in
+    let n = c.loop-i.invariant.1.1.1.1.1.0 in
+    rw (← o) (to_z-of_z {w = w64} (sfits_of c.result-1.given) ∙ (one_left c.loop-i.items c.loop-i.top (pos 0) (omega arith) (subst Whole (sym o) c.requires.whole)).1)
