@@ -4,6 +4,8 @@ use crate::read_deep;
 use indexing::{IndexingMap, ResultValues};
 use reading::{Cursor, expect_word, finish, is_next};
 use refusal::Verdict;
+use std::io;
+use std::io::Write;
 use writing::{error, refused, text};
 
 // The values of the range variables, which may be left out.
@@ -17,52 +19,55 @@ fn read_ranges(line: &[u8], from: Cursor, numbers: &mut [i64]) -> Numbers {
     }
 }
 
-fn put_values(out: &mut [u8], at: usize, answer: ResultValues) -> usize {
+fn put_values<W: Write>(out: &mut W, answer: ResultValues) -> io::Result<()> {
     let values = answer.values;
-    let next = text(out, at, b"value ");
-    put_numbers(out, next, first_of(&values, answer.results))
+    text(out, b"value ")?;
+    put_numbers(out, first_of(&values, answer.results))
 }
 
 // The answer to a map at a point, a value for each dimension and each range variable.
-fn values_of(m: IndexingMap, dims: &[i64], ranges: &[i64], out: &mut [u8], at: usize) -> usize {
+fn values_of<W: Write>(
+    m: IndexingMap,
+    dims: &[i64],
+    ranges: &[i64],
+    out: &mut W,
+) -> io::Result<()> {
     let answer = indexing::evaluate(m, dims, ranges);
     let verdict = answer.verdict;
     match verdict {
-        Verdict::Done => put_values(out, at, answer),
-        Verdict::Refused(r) => refused(out, at, r),
+        Verdict::Done => put_values(out, answer),
+        Verdict::Refused(r) => refused(out, r),
     }
 }
 
 // The answer with the point that starts at a cursor, read into lent buffers.
-fn answer_at(
+fn answer_at<W: Write>(
     line: &[u8],
     m: IndexingMap,
     from: Cursor,
     dims: &mut [i64],
     ranges: &mut [i64],
-    out: &mut [u8],
-    at: usize,
-) -> usize {
+    out: &mut W,
+) -> io::Result<()> {
     let point = read_numbers(line, expect_word(line, from, b"at"), b'(', b')', dims);
     let values = read_ranges(line, point.next, ranges);
     let end = finish(line, values.next);
     if !end.ok {
-        return error(out, at, end.at);
+        return error(out, end.at);
     }
     values_of(
         m,
         first_of(dims, point.count),
         first_of(ranges, values.count),
         out,
-        at,
     )
 }
 
 // The answer to a request whose map starts at a cursor. A line has fewer numbers than half its bytes.
-pub fn answer_eval(line: &[u8], from: Cursor, out: &mut [u8], at: usize) -> usize {
+pub fn answer_eval<W: Write>(line: &[u8], from: Cursor, out: &mut W) -> io::Result<()> {
     let mut dims = [0i64; 32768];
     let mut ranges = [0i64; 32768];
     let read = read_deep(line, from);
     let map = read.map;
-    answer_at(line, map, read.next, &mut dims, &mut ranges, out, at)
+    answer_at(line, map, read.next, &mut dims, &mut ranges, out)
 }

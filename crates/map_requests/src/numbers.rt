@@ -1,6 +1,8 @@
 // Lists of signed numbers: reading one into a lent buffer, and printing one.
 use map_reading::read_signed;
 use reading::{Cursor, expect, is_next, one_more};
+use std::io;
+use std::io::Write;
 use writing::{put, signed, text};
 
 // How many numbers were read.
@@ -76,21 +78,19 @@ pub fn first_of(numbers: &[i64], count: usize) -> &[i64] {
 }
 
 // A number, behind a comma where it is not the first.
-fn put_number(out: &mut [u8], at: usize, place: usize, z: i64) -> usize {
+fn put_number<W: Write>(out: &mut W, place: usize, z: i64) -> io::Result<()> {
     if place == 0 {
-        return signed(out, at, z);
+        return signed(out, z);
     }
-    let next = text(out, at, b", ");
-    signed(out, next, z)
+    text(out, b", ")?;
+    signed(out, z)
 }
 
 // Numbers between parentheses.
-pub fn put_numbers(out: &mut [u8], at: usize, numbers: &[i64]) -> usize {
-    let mut next = put(out, at, b'(');
-    let mut i = 0;
-    while i < numbers.len() {
-        next = put_number(out, next, i, numbers[i]);
-        i += 1;
+pub fn put_numbers<W: Write>(out: &mut W, numbers: &[i64]) -> io::Result<()> {
+    put(out, b'(')?;
+    for (i, z) in numbers.iter().enumerate() {
+        put_number(out, i, *z)?;
     }
-    put(out, next, b')')
+    put(out, b')')
 }

@@ -3,43 +3,43 @@ use crate::read_last;
 use indexing::{IndexingMap, ResultRanges};
 use reading::Cursor;
 use refusal::Verdict;
+use std::io;
+use std::io::Write;
 use writing::{error, interval, put, refused, text};
 
 // The range of a result, behind a space.
-fn put_range(out: &mut [u8], at: usize, answer: ResultRanges, i: usize) -> usize {
-    let next = put(out, at, b' ');
+fn put_range<W: Write>(out: &mut W, answer: ResultRanges, i: usize) -> io::Result<()> {
+    put(out, b' ')?;
     if i < 8 {
-        return interval(out, next, answer.lower[i], answer.upper[i]);
+        return interval(out, answer.lower[i], answer.upper[i]);
     }
-    next
+    Ok(())
 }
 
-fn put_ranges(out: &mut [u8], at: usize, answer: ResultRanges) -> usize {
-    let mut next = text(out, at, b"ranges");
-    let mut i = 0;
-    while i < answer.results {
-        next = put_range(out, next, answer, i);
-        i += 1;
+fn put_ranges<W: Write>(out: &mut W, answer: ResultRanges) -> io::Result<()> {
+    text(out, b"ranges")?;
+    for i in 0..answer.results {
+        put_range(out, answer, i)?;
     }
-    next
+    Ok(())
 }
 
-fn ranges_of(m: IndexingMap, out: &mut [u8], at: usize) -> usize {
+fn ranges_of<W: Write>(m: IndexingMap, out: &mut W) -> io::Result<()> {
     let answer = indexing::result_ranges(m);
     let verdict = answer.verdict;
     match verdict {
-        Verdict::Done => put_ranges(out, at, answer),
-        Verdict::Refused(r) => refused(out, at, r),
+        Verdict::Done => put_ranges(out, answer),
+        Verdict::Refused(r) => refused(out, r),
     }
 }
 
 // The answer to a request whose map starts at a cursor.
-pub fn answer_range(line: &[u8], from: Cursor, out: &mut [u8], at: usize) -> usize {
+pub fn answer_range<W: Write>(line: &[u8], from: Cursor, out: &mut W) -> io::Result<()> {
     let read = read_last(line, from);
     let map = read.map;
     let end = read.next;
     if !end.ok {
-        return error(out, at, end.at);
+        return error(out, end.at);
     }
-    ranges_of(map, out, at)
+    ranges_of(map, out)
 }

@@ -7,6 +7,8 @@ use reading::{
     Cursor, NumbersRead, expect, first_of, is_next, one_more, put_at, read_shape, read_unsigned,
 };
 use shape::Shape;
+use std::io;
+use std::io::Write;
 use writing::error;
 
 // With the cut at the cursor.
@@ -69,34 +71,32 @@ fn map_of(
 }
 
 // The answer with the cuts read into lent buffers.
-fn slice_in(
+fn slice_in<W: Write>(
     line: &[u8],
     from: Cursor,
     starts: &mut [u64],
     limits: &mut [u64],
     strides: &mut [u64],
-    out: &mut [u8],
-    at: usize,
-) -> usize {
+    out: &mut W,
+) -> io::Result<()> {
     let input = read_shape(line, from);
     let cuts = read_cuts(line, input.next, starts, limits, strides);
     let read = read_way(line, cuts.next);
     let way = read.way;
     let end = read.next;
     if !end.ok {
-        return error(out, at, end.at);
+        return error(out, end.at);
     }
     print_answer(
         out,
-        at,
         map_of(way, input.shape, cuts.count, starts, limits, strides),
     )
 }
 
 // The answer to a request whose input starts at a cursor. A cut has seven bytes at least.
-pub fn answer_slice(line: &[u8], from: Cursor, out: &mut [u8], at: usize) -> usize {
+pub fn answer_slice<W: Write>(line: &[u8], from: Cursor, out: &mut W) -> io::Result<()> {
     let mut starts = [0u64; 16384];
     let mut limits = [0u64; 16384];
     let mut strides = [0u64; 16384];
-    slice_in(line, from, &mut starts, &mut limits, &mut strides, out, at)
+    slice_in(line, from, &mut starts, &mut limits, &mut strides, out)
 }

@@ -7,8 +7,9 @@ mod operands;
 mod shapes;
 mod ways;
 
-use check::same;
-use reading::Cursor;
+use reading::{Cursor, same};
+use std::io;
+use std::io::Write;
 
 #[derive(Clone, Copy)]
 pub enum Operation {
@@ -58,19 +59,18 @@ fn named_sized(name: &[u8]) -> Operation {
 }
 
 // The answer to a request for an operation whose arguments start at a cursor.
-pub fn answer_operation(
+pub fn answer_operation<W: Write>(
     line: &[u8],
     operation: Operation,
     from: Cursor,
-    out: &mut [u8],
-    at: usize,
-) -> usize {
+    out: &mut W,
+) -> io::Result<()> {
     match operation {
-        Operation::Elementwise => shapes::answer_elementwise(line, from, out, at),
-        Operation::Reshape => shapes::answer_reshape(line, from, out, at),
-        Operation::Concatenate => operands::answer_concatenate(line, from, out, at),
-        Operation::Slice => cuts::answer_slice(line, from, out, at),
-        Operation::Broadcast => lists::answer_broadcast(line, from, out, at),
-        _ => lists::answer_listed(line, operation, from, out, at),
+        Operation::Elementwise => shapes::answer_elementwise(line, from, out),
+        Operation::Reshape => shapes::answer_reshape(line, from, out),
+        Operation::Concatenate => operands::answer_concatenate(line, from, out),
+        Operation::Slice => cuts::answer_slice(line, from, out),
+        Operation::Broadcast => lists::answer_broadcast(line, from, out),
+        _ => lists::answer_listed(line, operation, from, out),
     }
 }

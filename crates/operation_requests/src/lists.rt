@@ -5,6 +5,8 @@ use indexing::AnsweredMap;
 use map_printing::print_answer;
 use reading::{Cursor, first_of, read_list, read_shape};
 use shape::Shape;
+use std::io;
+use std::io::Write;
 use writing::error;
 
 fn reduced(read: WayRead, input: Shape, dimensions: &[u64]) -> AnsweredMap {
@@ -26,39 +28,42 @@ fn map_of(operation: Operation, read: WayRead, input: Shape, dimensions: &[u64])
 }
 
 // The answer with the list read into a lent buffer.
-fn listed_in(
+fn listed_in<W: Write>(
     line: &[u8],
     operation: Operation,
     from: Cursor,
     items: &mut [u64],
-    out: &mut [u8],
-    at: usize,
-) -> usize {
+    out: &mut W,
+) -> io::Result<()> {
     let input = read_shape(line, from);
     let list = read_list(line, input.next, items);
     let read = read_way_of(line, operation, list.next);
     let end = read.next;
     if !end.ok {
-        return error(out, at, end.at);
+        return error(out, end.at);
     }
     let dimensions = first_of(items, list.count);
-    print_answer(out, at, map_of(operation, read, input.shape, dimensions))
+    print_answer(out, map_of(operation, read, input.shape, dimensions))
 }
 
 // The answer to a request whose input starts at a cursor. A line has fewer numbers than half its bytes.
-pub fn answer_listed(
+pub fn answer_listed<W: Write>(
     line: &[u8],
     operation: Operation,
     from: Cursor,
-    out: &mut [u8],
-    at: usize,
-) -> usize {
+    out: &mut W,
+) -> io::Result<()> {
     let mut items = [0u64; 32768];
-    listed_in(line, operation, from, &mut items, out, at)
+    listed_in(line, operation, from, &mut items, out)
 }
 
 // The answer to a broadcast with the list read into a lent buffer.
-fn broadcast_in(line: &[u8], from: Cursor, items: &mut [u64], out: &mut [u8], at: usize) -> usize {
+fn broadcast_in<W: Write>(
+    line: &[u8],
+    from: Cursor,
+    items: &mut [u64],
+    out: &mut W,
+) -> io::Result<()> {
     let input = read_shape(line, from);
     let output = read_shape(line, input.next);
     let list = read_list(line, output.next, items);
@@ -66,18 +71,17 @@ fn broadcast_in(line: &[u8], from: Cursor, items: &mut [u64], out: &mut [u8], at
     let way = read.way;
     let end = read.next;
     if !end.ok {
-        return error(out, at, end.at);
+        return error(out, end.at);
     }
     let dimensions = first_of(items, list.count);
     print_answer(
         out,
-        at,
         operations::broadcast(way, input.shape, output.shape, dimensions),
     )
 }
 
 // The answer to a request whose input and output start at a cursor.
-pub fn answer_broadcast(line: &[u8], from: Cursor, out: &mut [u8], at: usize) -> usize {
+pub fn answer_broadcast<W: Write>(line: &[u8], from: Cursor, out: &mut W) -> io::Result<()> {
     let mut items = [0u64; 32768];
-    broadcast_in(line, from, &mut items, out, at)
+    broadcast_in(line, from, &mut items, out)
 }

@@ -4,6 +4,8 @@ use map_printing::print_answer;
 use operations::{MAX_OPERANDS, Operands};
 use reading::{Cursor, is_next, one_more, read_shape, read_unsigned};
 use shape::Shape;
+use std::io;
+use std::io::Write;
 use writing::error;
 
 // The operands as the line has them: how many there are, and the first shapes.
@@ -52,7 +54,7 @@ fn read_operands(line: &[u8], from: Cursor) -> OperandsRead {
 }
 
 // The answer to a request whose dimension starts at a cursor.
-pub fn answer_concatenate(line: &[u8], from: Cursor, out: &mut [u8], at: usize) -> usize {
+pub fn answer_concatenate<W: Write>(line: &[u8], from: Cursor, out: &mut W) -> io::Result<()> {
     let dimension = read_unsigned(line, from);
     let operand = read_unsigned(line, dimension.next);
     let shapes = read_operands(line, operand.next);
@@ -60,11 +62,10 @@ pub fn answer_concatenate(line: &[u8], from: Cursor, out: &mut [u8], at: usize) 
     let way = read.way;
     let end = read.next;
     if !end.ok {
-        return error(out, at, end.at);
+        return error(out, end.at);
     }
     print_answer(
         out,
-        at,
         operations::concatenate(way, shapes.operands, dimension.value, operand.value),
     )
 }

@@ -8,7 +8,7 @@ use native.Mathlib.Omega.{arith}
 use mathlib.Core.List.{List, [], ◌∷◌, ◌++◌}
 use lib.ListN.{length, get_or, drop, drop_of_length-le, length-drop, length-set, set}
 use lib.Seq.{drop-cons, drop-set-lt, get_or-drop, get_or-set_same}
-use Rattle.radix.specs.Radix.{prod, row_major, digits, In, more, Sizes, Bounded}
+use Rattle.radix.specs.Radix.{prod, row_major, digits, In, Sizes, Bounded}
 use Rattle.radix.proofs.Lists.{rest-of}
 use Rattle.radix.proofs.Radix.{in-drop, in-length, below}
 

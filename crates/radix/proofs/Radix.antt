@@ -1,6 +1,6 @@
 -- The laws of mixed radix: the row-major index is a bijection between the indices inside the sizes and the numbers below the product. Assumes nothing.
 use mathlib.Core.Path.{◌≡◌, refl, ap, ◌∙◌, subst}
-use Prim.Native.Nat.{ℕ, zero, suc, ◌+◌, ◌-◌, ◌*◌, ◌%◌, ◌<◌}
+use Prim.Native.Nat.{ℕ, zero, suc, ◌*◌, ◌%◌, ◌<◌}
 use native.Mathlib.Nat.{mul-add-div_right, mul-add-mod_self_right, div-eq_of_lt, mod-eq_of_lt, add-zero, mul-le-mul_right, div-add-mod', mod-lt, div-lt_iff_lt-mul, suc-mul, eq-zero-or-pos, mul-zero, not-suc-le-zero, le_of_suc-le-suc, suc_inj}
 use native.Mathlib.Omega.{arith}
 use mathlib.Core.List.{List, [], ◌∷◌, ◌++◌}

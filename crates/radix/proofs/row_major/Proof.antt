@@ -1,5 +1,5 @@
 use mathlib.Core.Path.{◌≡◌, sym, ◌∙◌}
-use Prim.Native.Nat.{◌≤◌, ◌<◌, ◌*◌, ◌-◌, ◌+◌, ◌^◌}
+use Prim.Native.Nat.{◌≤◌, ◌<◌, ◌*◌, ◌-◌, ◌+◌}
 use borrow.Author.Rules.{rules}
 use native.Mathlib.Omega.{arith}
 use native.Mathlib.Nat.{zero-mul, zero-add}
