@@ -2,7 +2,7 @@
 use Rattle.std.specs.Prelude.{ℕ, zero, suc, ◌<◌, ◌≡◌, Bool, true, ◌&&◌, List, [], leb, ltb, length, get_or}
 use Rattle.radix.specs.Radix.{max_count, every}
 use Rattle.shape.specs.declared.Shape.{Shape}
-use Rattle.layout.specs.Layout.{blank_layout, good_layout, padded_of}
+use Rattle.layout.specs.Layout.{good_layout, padded_of}
 use Rattle.layout.specs.declared.Layout.{Layout}
 use Rattle.tree_plan.specs.Tree.{Tree}
 use Rattle.route.specs.Same.{move_of}
@@ -13,6 +13,9 @@ abbrev pub max_layouts : ℕ
 max_layouts = 8
 
 -- what a list gives past its end
+abbrev pub blank_layout : Layout
+blank_layout = record { rank = 0; minor_to_major = []; tiles = 0; tile_len = []; tile = [] }
+
 unfoldable pub blank : Station
 blank = record { parent = 0; count = 0; layouts = [] }
 

@@ -4,8 +4,11 @@
 mod input;
 mod request;
 
-fn main() {
+use std::io;
+use writing::Output;
+
+fn main(rt: HostRuntime) -> io::Result<()> {
     let mut line = [0u8; 65536];
-    let mut out = [0u8; 65536];
-    input::serve(&mut line, &mut out);
+    let mut out = Output::new(rt.stdout());
+    input::serve(&mut rt.stdin(), &mut line, &mut out)
 }

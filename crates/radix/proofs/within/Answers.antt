@@ -30,7 +30,7 @@ loop-i-preserved c =
     let xs = c.args.xs.now in (
       search rules,
       below_more (λ (k : ℕ). ok c.args.most xs k ≡ true) c.loop-i.i c.loop-i.invariant.1
-          (and-true (le-leb 1 (get_or xs c.loop-i.i 0) c.if-xs-i-lt1.false) (le-leb (get_or xs c.loop-i.i 0) c.args.most c.if-most-xs.false)),
+          (and-true (le-leb 1 (get_or xs c.loop-i.i 0) (omega arith)) (le-leb (get_or xs c.loop-i.i 0) c.args.most c.if-most-xs.false)),
     )
 
 pub returns : goal.returns

@@ -10,7 +10,8 @@ use lib.Dec.{leb}
 use lib.ListN.{get_or}
 use Rattle.radix.specs.Radix.{max_count, every}
 use Rattle.radix.proofs.Tests.{under-cap, over-cap}
-use Rattle.layout.specs.Layout.{blank_layout, padded_of}
+use Rattle.layout.specs.Layout.{padded_of}
+use Rattle.route.specs.Stations.{blank_layout}
 use Rattle.layout.specs.declared.Layout.{Layout}
 use Rattle.shape.specs.declared.Shape.{Shape}
 use Rattle.route.specs.Loading.{Filled}

@@ -8,7 +8,8 @@ use lib.ListN.{get_or}
 use Rattle.radix.specs.Radix.{every}
 use Rattle.radix.proofs.Tests.{every-not}
 use Rattle.route.proofs.Tables.{every-next, still_kept}
-use Rattle.layout.specs.Layout.{blank_layout, good_layout}
+use Rattle.layout.specs.Layout.{good_layout}
+use Rattle.route.specs.Stations.{blank_layout}
 use Rattle.route.proofs.load.good_layouts.Statement.{statement}
 use Rattle.route.proofs.load.good_layouts.Tie as tie
 

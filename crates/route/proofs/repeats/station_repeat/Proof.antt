@@ -11,7 +11,7 @@ use Rattle.refusal.specs.declared.Refusal.TheVariants.{RepeatedLayout}
 use Rattle.refusal.specs.declared.Verdict.TheVariants.{Refused}
 use Rattle.shape.specs.Repeats.{is_repeat}
 use Rattle.shape.proofs.FirstRepeats.{no-repeat, first-repeat}
-use Rattle.layout.specs.Layout.{blank_layout}
+use Rattle.route.specs.Stations.{blank_layout}
 use Rattle.layout.specs.declared.Layout.{Layout}
 use Rattle.route.specs.Same.{same_layout}
 use Rattle.route.specs.LayoutRepeats.{same_at}
