@@ -4,15 +4,12 @@ use native.Mathlib.Omega.{arith}
 use Rattle.reciprocal.specs.Multiplier.{max_divisor}
 use Rattle.reciprocal.proofs.judge_divisor.Goals as goal
 
-pub returns-then-d-lt1 : goal.returns-then-d-lt1
-returns-then-d-lt1 c = rw (lt-leb 1 c.args.d (omega (arith, c.if-d-lt1.true)))
-
 pub returns-then-d-gt-MAX_DIVISOR : goal.returns-then-d-gt-MAX_DIVISOR
 returns-then-d-gt-MAX_DIVISOR c =
     let d = c.args.d in
-    rw (le-leb 1 d (omega (arith, c.if-d-gt-MAX_DIVISOR.true)), lt-leb d max_divisor (omega (arith, c.if-d-gt-MAX_DIVISOR.true)))
+    rw (le-leb 1 d (omega arith), lt-leb d max_divisor (omega arith))
 
 pub returns : goal.returns
 returns c =
     let d = c.args.d in
-    rw (le-leb 1 d (omega (arith, c.if-d-lt1.false)), le-leb d max_divisor (omega (arith, c.if-d-gt-MAX_DIVISOR.false)))
+    rw (le-leb 1 d (omega arith), le-leb d max_divisor (omega arith))

@@ -6,7 +6,7 @@ use Rattle.offset_table.proofs.table.first_outside.Goals as goal
 pub returns-then-padded-table : goal.returns-then-padded-table
 returns-then-padded-table c =
     sym (outside-is c.args.table.now c.args.padded c.loop-k.k
-    (record { inside = c.loop-k-test.true; past = c.if-padded-table.true; none_before = c.loop-k.invariant.1 }))
+    (record { inside = c.loop-k-test.true; past = omega arith; none_before = c.loop-k.invariant.1 }))
 
 pub returns : goal.returns
 returns c =
