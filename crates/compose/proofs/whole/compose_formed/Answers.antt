@@ -45,10 +45,10 @@ judged_ranges-requires c =
     let joined : Joinable c.args.f c.args.g = record { both = c.requires; few = c.if-f-g-gt-MAX_VARIABLES.false } in (
       c.requires.before,
       c.requires.after,
-      map-formed c.args.f c.args.g joined c.if-f-g-gt-MAX_CONSTRAINTS.false c.built_map-b.ensures c.if-b-gt-MAX_NODES.false,
+      map-formed c.args.f c.args.g joined c.if-f-g-gt-MAX_CONSTRAINTS.false c.built_map-b.ensures (omega arith),
     )
 
 pub returns : goal.returns
 returns c =
     let joined : Joinable c.args.f c.args.g = record { both = c.requires; few = c.if-f-g-gt-MAX_VARIABLES.false } in
-    c.judged_ranges.ensures ∙ ranges-judged c.args.f c.args.g joined c.if-f-g-gt-MAX_CONSTRAINTS.false c.built_map-b.ensures c.if-b-gt-MAX_NODES.false
+    c.judged_ranges.ensures ∙ ranges-judged c.args.f c.args.g joined c.if-f-g-gt-MAX_CONSTRAINTS.false c.built_map-b.ensures (omega arith)
