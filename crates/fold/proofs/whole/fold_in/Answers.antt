@@ -21,4 +21,4 @@ returns-then-q-gt-MAX_NODES c =
 pub returns : goal.returns
 returns c =
     ap (λ (r : IndexingMap). answered_map Done r) c.folded_record-map.ensures
-    ∙ assembled c.args.m c.fold_results-p.ensures c.if-not-small.false c.fold_constraints-q.ensures c.if-not-all.false (omega (arith, c.if-q-gt-MAX_NODES.false))
+    ∙ assembled c.args.m c.fold_results-p.ensures c.if-not-small.false c.fold_constraints-q.ensures c.if-not-all.false (omega arith)
