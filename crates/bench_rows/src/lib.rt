@@ -10,16 +10,8 @@ pub const ROW: usize = 35;
 // Fills target from a place of the row on, where the row has so many numbers.
 fn copy_numbers(row: &[u64], from: usize, target: &mut [u64]) {
     let count = target.len();
-    if row.len() < count {
-        return;
-    }
-    if row.len() - count < from {
-        return;
-    }
-    let mut k: usize = 0;
-    while k < count {
-        target[k] = row[from + k];
-        k += 1;
+    if count <= row.len() && from <= row.len() - count {
+        target.copy_from_slice(&row[from..from + count]);
     }
 }
 

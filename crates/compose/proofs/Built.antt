@@ -1,4 +1,5 @@
 -- The record made of what was written, its verdict, and the answer it stands for. Assumes nothing.
+use Rattle.std.specs.Prelude.{Err}
 use mathlib.Core.Path.{◌≡◌, refl, sym, ap, ap₂, ◌∙◌, subst}
 use mathlib.Core.Bool.{Bool, true, false, ◌&&◌}
 use mathlib.Core.List.{List, [], ◌∷◌, map}
@@ -13,8 +14,7 @@ use Rattle.refusal.specs.Number.{answered}
 use Rattle.refusal.specs.Judge.{rule, judge}
 use Rattle.refusal.specs.declared.Refusal.{Refusal}
 use Rattle.refusal.specs.declared.Refusal.TheVariants.{CountLimit, WorkingLimit}
-use Rattle.refusal.specs.declared.Verdict.{Verdict}
-use Rattle.refusal.specs.declared.Verdict.TheVariants.{Refused}
+use Rattle.refusal.specs.Judge.{Verdict}
 use Rattle.expression.specs.Expression.{node_count}
 use Rattle.expression.specs.Node.{max_variables, max_nodes}
 use Rattle.expression.specs.declared.Node.{Node}
@@ -62,21 +62,21 @@ module _ (f g : IndexingMap) where
 
   -- ---- number 7 of the result
 
-  count-refused : few_composed f g ≡ false → answered_map (Refused CountLimit) no_map ≡ formed_compose f g
+  count-refused : few_composed f g ≡ false → Err CountLimit ≡ formed_compose f g
   unfolding formed_compose
   count-refused e =
       sym
       (ap
       (λ (b : Bool). answered_map (judge (rule b CountLimit ∷ rule (good_ranges f) WorkingLimit ∷ rule (good_ranges g) WorkingLimit ∷ rule (small_composed f g) WorkingLimit ∷ [])) (composed_map f g)) e)
 
-  pub many-ranges : max_variables < f.ranges + g.ranges → answered_map (Refused CountLimit) no_map ≡ formed_compose f g
+  pub many-ranges : max_variables < f.ranges + g.ranges → Err CountLimit ≡ formed_compose f g
   unfolding few_composed
   many-ranges h =
       count-refused
       (ap (λ (b : Bool). b && (leb (length (composed_constraints f g)) max_constraints && leb (length (nodes_of (composed_trees f g))) max_nodes))
       (lt-leb (f.ranges + g.ranges) max_variables h))
 
-  pub many-constraints : max_constraints < constraint_count f g → answered_map (Refused CountLimit) no_map ≡ formed_compose f g
+  pub many-constraints : max_constraints < constraint_count f g → Err CountLimit ≡ formed_compose f g
   unfolding few_composed
   many-constraints h =
       let n : max_constraints < length (composed_constraints f g) = omega (arith, constraints-long f g) in
@@ -84,7 +84,7 @@ module _ (f g : IndexingMap) where
       (and-false (leb (f.ranges + g.ranges) max_variables)
       (ap (λ (b : Bool). b && leb (length (nodes_of (composed_trees f g))) max_nodes) (lt-leb (length (composed_constraints f g)) max_constraints n)))
 
-  pub many-nodes : {r : BuiltMap} → Builds f g r → max_nodes < r.nodes → answered_map (Refused CountLimit) no_map ≡ formed_compose f g
+  pub many-nodes : {r : BuiltMap} → Builds f g r → max_nodes < r.nodes → Err CountLimit ≡ formed_compose f g
   unfolding few_composed
   many-nodes b h =
       let n : max_nodes < length (nodes_of (composed_trees f g)) = omega (arith, b.nodes) in
@@ -118,7 +118,7 @@ module _ (f g : IndexingMap) where
 
   -- ---- the answer
 
-  pub compose-refused : (r : Refusal) → judge (compose_rules f g) ≡ Refused r → map_answer (answered_map (Refused r) no_map) ≡ compose_answer f g
+  pub compose-refused : (r : Refusal) → judge (compose_rules f g) ≡ Err r → map_answer (Err r) ≡ compose_answer f g
   unfolding compose_answer
   compose-refused r e = sym (map-refused (composed_map f g) (compose_rules f g) r e)
 

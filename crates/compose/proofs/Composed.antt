@@ -1,4 +1,5 @@
 -- Maps whose composition is accepted: the trees of the composed map fit a record, which is accepted. Assumes nothing.
+use Rattle.std.specs.Prelude.{Ok}
 use mathlib.Core.Path.{◌≡◌, refl, sym, ap, ap₂, ◌∙◌, subst}
 use mathlib.Core.Bool.{Bool, true}
 use mathlib.Core.List.{List, [], ◌∷◌, ◌++◌, map}
@@ -15,7 +16,6 @@ use Rattle.integer.specs.Exact.{limit}
 use Rattle.radix.proofs.Tests.{and-true, and_left, and_right, every-at, every-all}
 use Rattle.refusal.specs.Judge.{judge}
 use Rattle.refusal.specs.declared.Refusal.TheVariants.{Attribute, WrongLength, CountLimit, WorkingLimit}
-use Rattle.refusal.specs.declared.Verdict.TheVariants.{Done}
 use Rattle.refusal.proofs.Judged.{kept, rest}
 use Rattle.expression.specs.Expression.{Expr}
 use Rattle.expression.specs.Node.{max_variables, max_places, max_nodes}
@@ -48,7 +48,7 @@ pub record Composes (f g : IndexingMap) : Type 0 where
 pub eqb-true : (a b : ℕ) → eqb a b ≡ true → a ≡ b
 eqb-true a b e = eqb→eq a b (subst T (sym e) tt)
 
-pub composes-of : (f g : IndexingMap) → judge (compose_rules f g) ≡ Done → Composes f g
+pub composes-of : (f g : IndexingMap) → judge (compose_rules f g) ≡ Ok tt → Composes f g
 composes-of f g e =
     let e1 = rest (good_parts f) Attribute _ e in
     let e2 = rest (good_parts g) Attribute _ e1 in

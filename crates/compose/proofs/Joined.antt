@@ -1,5 +1,5 @@
 -- The bounds and the constraints of the composed map, by places. Assumes nothing.
-use mathlib.Core.Path.{◌≡◌, refl, sym, ap, ◌∙◌, subst}
+use mathlib.Core.Path.{◌≡◌, sym, ap, ◌∙◌}
 use mathlib.Core.Bool.{Bool, cond}
 use mathlib.Core.List.{List, ◌++◌}
 use Prim.Native.Nat.{ℕ, ◌+◌, ◌-◌, ◌<◌, ◌≤◌}
@@ -15,14 +15,12 @@ use Rattle.indexing.specs.Map.{runs}
 use Rattle.indexing.specs.Ready.{Formed}
 use Rattle.indexing.specs.declared.IndexingMap.{IndexingMap}
 use Rattle.folding.specs.Map.{Constraint}
-use Rattle.encoding.specs.Postfix.{postfix}
-use Rattle.encoding.specs.Written.{Written}
 use Rattle.encoding.proofs.Lists.{map_at}
 use Rattle.encoding.proofs.Listed.{listed-length, listed_at, listed-is}
 use Rattle.encoding.proofs.Trees.{runs-all}
-use Rattle.encoding.specs.Trees.{listed, expr_at, constraint_at, map_constraints}
-use Rattle.compose.specs.ComposeMap.{end_at, joined_ends, put_into, inside_at, substituted, inside_constraints, substituted_constraints, composed_constraints}
-use Rattle.compose.specs.Ready.{Joinable, constraint_count, constraint_of, EndsOf}
+use Rattle.encoding.specs.Trees.{listed, constraint_at, map_constraints}
+use Rattle.compose.specs.ComposeMap.{end_at, joined_ends, inside_at, substituted, inside_constraints, substituted_constraints, composed_constraints}
+use Rattle.compose.specs.Ready.{Joinable, constraint_count, constraint_of}
 
 -- ---- the ends at a place
 
@@ -48,37 +46,6 @@ module _ (f g : IndexingMap) (k : ℕ) where
 
   pub constraint-other : f.constraints ≤ k → f.results ≤ k - f.constraints → constraint_of f g k ≡ substituted f (constraint_at g (k - f.constraints - f.results))
   constraint-other h l = rw (le-ltb k f.constraints h, le-ltb (k - f.constraints) f.results l)
-
-  module _ {ks ks' : List ℕ} {vs vs' : List ℤ} {at r : ℕ} where
-    as-constraint : (c e : Constraint) → c ≡ e → Written (postfix e.expr) ks ks' vs vs' at r → Written (postfix c.expr) ks ks' vs vs' at r
-    as-constraint c e q w = subst (λ (x : Constraint). Written (postfix x.expr) ks ks' vs vs' at r) (sym q) w
-
-    pub written-first : k < f.constraints → Written (postfix (expr_at f (f.results + k))) ks ks' vs vs' at r → Written (postfix (constraint_of f g k).expr) ks ks' vs vs' at r
-    written-first h w = as-constraint (constraint_of f g k) (constraint_at f k) (constraint-first h) w
-
-    pub written-inside : f.constraints ≤ k → k - f.constraints < f.results → Written (postfix (expr_at f (k - f.constraints))) ks ks' vs vs' at r
-        → Written (postfix (constraint_of f g k).expr) ks ks' vs vs' at r
-    written-inside h l w = as-constraint (constraint_of f g k) (inside_at f g (k - f.constraints)) (constraint-inside h l) w
-
-    pub written-other : f.constraints ≤ k → f.results ≤ k - f.constraints → Written (postfix (put_into f (expr_at g (g.results + (k - f.constraints - f.results))))) ks ks' vs vs' at r
-        → Written (postfix (constraint_of f g k).expr) ks ks' vs vs' at r
-    written-other h l w = as-constraint (constraint_of f g k) (substituted f (constraint_at g (k - f.constraints - f.results))) (constraint-other h l) w
-
-  pub ends-first : k < f.constraints
-      → EndsOf (constraint_of f g k) (record { lower = get_or f.constraint_lower k (pos 0); upper = get_or f.constraint_upper k (pos 0) })
-  ends-first h = rw (constraint-first h) (record { low = refl; high = refl })
-
-  pub ends-inside : f.constraints ≤ k → k - f.constraints < f.results
-      → EndsOf (constraint_of f g k) (record { lower = get_or g.lower (k - f.constraints) (pos 0); upper = get_or g.upper (k - f.constraints) (pos 0) })
-  ends-inside h l = rw (constraint-inside h l) (record { low = refl; high = refl })
-
-  pub ends-other : f.constraints ≤ k → f.results ≤ k - f.constraints
-      → EndsOf (constraint_of f g k)
-      (record {
-        lower = get_or g.constraint_lower (k - f.constraints - f.results) (pos 0);
-        upper = get_or g.constraint_upper (k - f.constraints - f.results) (pos 0);
-      })
-  ends-other h l = rw (constraint-other h l) (record { low = refl; high = refl })
 
 -- the constraints of the composed map one by one
 module _ (f g : IndexingMap) where

@@ -10,7 +10,7 @@ use lib.IntN.{pos}
 use lib.ListN.{length, get_or}
 use Rattle.refusal.specs.Number.{answered}
 use Rattle.refusal.specs.Judge.{judge}
-use Rattle.refusal.specs.declared.Verdict.{Verdict}
+use Rattle.refusal.specs.Judge.{Verdict}
 use Rattle.expression.specs.Expression.{Kind, d, s, rt, Expr, Range, span}
 use Rattle.expression.specs.Node.{max_variables, max_places, max_nodes}
 use Rattle.expression.specs.Value.{bounds}

@@ -13,7 +13,7 @@ use lib.ListN.{length, get_or, replicate, length-append, get_or-append}
 use lib.Seq.{get_or-append-add}
 use Rattle.radix.proofs.Tests.{and-true, and_left, and_right}
 use Rattle.refusal.specs.Number.{answered}
-use Rattle.refusal.specs.declared.Verdict.{Verdict}
+use Rattle.refusal.specs.Judge.{Verdict}
 use Rattle.expression.specs.Expression.{Expr, span, In, eval}
 use Rattle.expression.specs.Node.{max_variables, max_places}
 use Rattle.expression.specs.Value.{point_of}

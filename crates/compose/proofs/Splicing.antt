@@ -14,8 +14,7 @@ use Rattle.expression.proofs.Within.{nodes-ok}
 use Rattle.indexing.specs.Map.{start_of, count_of, runs, tree_at}
 use Rattle.indexing.specs.Ready.{Formed, run_of}
 use Rattle.indexing.specs.declared.IndexingMap.{IndexingMap}
-use Rattle.indexing.specs.declared.Run.TheVariants.{Held}
-use Rattle.indexing.proofs.Formed.{nodes-here}
+use Rattle.indexing.proofs.Formed.{stands, nodes-here}
 use Rattle.encoding.specs.Postfix.{postfix, Encodable}
 use Rattle.encoding.specs.Written.{Room, Written}
 use Rattle.encoding.proofs.Stored.{nothing, both}
@@ -81,17 +80,17 @@ module _ (m : IndexingMap) (w : Formed m) (i : ℕ) (h : i < runs m) where
   pub expr-encodable : Encodable m.dims m.ranges (expr_at m i)
   expr-encodable = run-encodable m i (expr_at m i) tree-here
 
-  pub run-nodes : (a b : ℕ) → Held a b ≡ run_of m i → nodes_at m.dims m.ranges m.kinds m.values a b ≡ postfix (expr_at m i)
+  pub run-nodes : (a b : ℕ) → stands a b ≡ run_of m i → nodes_at m.dims m.ranges m.kinds m.values a b ≡ postfix (expr_at m i)
   unfolding tree_at
   run-nodes a b e =
       nodes-here m i a b e m.dims m.ranges
       ∙ nodes-unique m.dims m.ranges _ (expr_at m i) (nodes-ok m.dims m.ranges m.kinds m.values (start_of (count_of m) i) (count_of m i)) tree-here
 
-  pub run-copied : (a b : ℕ) → Held a b ≡ run_of m i → {os os' : List ℕ} {ws ws' : List ℤ} {at r : ℕ}
+  pub run-copied : (a b : ℕ) → stands a b ≡ run_of m i → {os os' : List ℕ} {ws ws' : List ℤ} {at r : ℕ}
       → Written (nodes_at m.dims m.ranges m.kinds m.values a b) os os' ws ws' at r → Written (postfix (expr_at m i)) os os' ws ws' at r
   run-copied a b e {os} {os'} {ws} {ws'} {at} {r} x = subst (λ (l : List Node). Written l os os' ws ws' at r) (run-nodes a b e) x
 
-  pub run-spliced : (f : IndexingMap) (a b : ℕ) → Held a b ≡ run_of m i → {os os' : List ℕ} {ws ws' : List ℤ} {at r : ℕ}
+  pub run-spliced : (f : IndexingMap) (a b : ℕ) → stands a b ≡ run_of m i → {os os' : List ℕ} {ws ws' : List ℤ} {at r : ℕ}
       → Written (splice (result_nodes f) f.ranges (nodes_at m.dims m.ranges m.kinds m.values a b)) os os' ws ws' at r
       → Written (postfix (put_into f (expr_at m i))) os os' ws ws' at r
   run-spliced f a b e {os} {os'} {ws} {ws'} {at} {r} x =

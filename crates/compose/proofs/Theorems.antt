@@ -1,4 +1,5 @@
 -- What composing two maps does, one theorem under each sentence. Assumes nothing.
+use Rattle.std.specs.Prelude.{Ok, Err}
 use mathlib.Core.Path.{◌≡◌, refl}
 use mathlib.Core.Logic.{◌↔◌}
 use mathlib.Core.Bool.{Bool, true, false, cond, ◌&&◌}
@@ -10,7 +11,6 @@ use lib.ListN.{length, get_or}
 use Rattle.refusal.specs.Number.{done, refusal}
 use Rattle.refusal.specs.Judge.{judge}
 use Rattle.refusal.specs.declared.Refusal.{Refusal}
-use Rattle.refusal.specs.declared.Verdict.TheVariants.{Done, Refused}
 use Rattle.expression.specs.Node.{max_variables}
 use Rattle.indexing.specs.Map.{in_domain, Domain, SameAt, Alike, good_parts, good_counts, good_ranges}
 use Rattle.indexing.specs.Answers.{map_rules, result_values, no_map}
@@ -58,12 +58,12 @@ compose-number f g =
     go false b c x y z u v w p q r s t k l m n = rw p
 
 -- Composing that is refused answers the refusal of the first rule that is broken, and a map of zeros.
-pub refused-zeros : (f g : IndexingMap) (r : Refusal) → judge (compose_rules f g) ≡ Refused r → compose_answer f g ≡ refusal (no_map ∷ []) r
+pub refused-zeros : (f g : IndexingMap) (r : Refusal) → judge (compose_rules f g) ≡ Err r → compose_answer f g ≡ refusal (no_map ∷ []) r
 unfolding compose_answer
 refused-zeros f g r e = map-refused (composed_map f g) (compose_rules f g) r e
 
 -- The number is 0 exactly where every rule is kept.
-pub done-is : (f g : IndexingMap) → ((compose_answer f g).number ≡ 0) ↔ (judge (compose_rules f g) ≡ Done)
+pub done-is : (f g : IndexingMap) → ((compose_answer f g).number ≡ 0) ↔ (judge (compose_rules f g) ≡ Ok tt)
 unfolding compose_answer
 done-is f g = map-number-zero (composed_map f g) (compose_rules f g)
 
@@ -73,7 +73,7 @@ past-counts f f' g g' a b = answer-unread f f' g g' a b
 
 -- ---- maps whose composition is not refused
 
-module _ (f g : IndexingMap) (h : judge (compose_rules f g) ≡ Done) where
+module _ (f g : IndexingMap) (h : judge (compose_rules f g) ≡ Ok tt) where
   composes : Composes f g
   composes = composes-of f g h
 
@@ -116,7 +116,7 @@ module _ (f g : IndexingMap) (h : judge (compose_rules f g) ≡ Done) where
   composed-values ds sf sg e = all-values f g composes ds sf sg e
 
   -- It is accepted.
-  pub accepted : judge (map_rules (composed_map f g)) ≡ Done
+  pub accepted : judge (map_rules (composed_map f g)) ≡ Ok tt
   accepted = let a = composed-accepted f g composes in rw (a.formed.parts, a.formed.counts, a.ranges)
 
   -- Evaluated at a point of f's domain, and any values of g's range variables, it answers what g answers at f's values: the same values,

@@ -1,8 +1,9 @@
 -- Composing f then g: f's results put for g's dimension variables, the composed map, the rules in the order of their numbers, and the
 -- answer. Assumes nothing.
-use Rattle.std.specs.Prelude.{Bool, cond, ◌&&◌, List, [], ◌∷◌, ◌++◌, map, ℕ, ◌+◌, ◌-◌, leb, ltb, eqb, ℤ, pos, length, get_or}
+use Rattle.std.specs.Prelude.{Bool, cond, ◌&&◌, List, [], ◌∷◌, ◌++◌, map, ℕ, ◌+◌, ◌-◌, leb, ltb, eqb, ℤ, pos, length, get_or, Result}
 use Rattle.refusal.specs.Number.{Answer}
 use Rattle.refusal.specs.Judge.{Rule, rule, judge}
+use Rattle.refusal.specs.declared.Refusal.{Refusal}
 use Rattle.refusal.specs.declared.Refusal.TheVariants.{Attribute, WrongLength, CountLimit, WorkingLimit}
 use Rattle.expression.specs.Expression.{d, s, rt, Expr, span}
 use Rattle.expression.specs.Node.{max_variables, max_places, max_nodes}
@@ -10,7 +11,6 @@ use Rattle.expression.specs.Value.{bounds}
 use Rattle.indexing.specs.Map.{max_constraints, good_parts, good_counts, good_ranges}
 use Rattle.indexing.specs.Answers.{answered_map, map_by}
 use Rattle.indexing.specs.declared.IndexingMap.{IndexingMap}
-use Rattle.indexing.specs.declared.AnsweredMap.{AnsweredMap}
 use Rattle.folding.specs.Map.{Constraint}
 use Rattle.encoding.specs.Encode.{trees_of, nodes_of, encode_map, all_small}
 use Rattle.encoding.specs.Trees.{listed, expr_at, result_trees, map_constraints}
@@ -114,5 +114,5 @@ unfoldable pub compose_answer : IndexingMap → IndexingMap → Answer IndexingM
 compose_answer f g = map_by (compose_rules f g) (composed_map f g)
 
 -- of maps to which 2, 6 and 7 do not apply
-unfoldable pub formed_compose : IndexingMap → IndexingMap → AnsweredMap
+unfoldable pub formed_compose : IndexingMap → IndexingMap → Result IndexingMap Refusal
 formed_compose f g = answered_map (judge (work_rules f g)) (composed_map f g)

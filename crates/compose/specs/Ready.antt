@@ -1,6 +1,7 @@
 -- What the parts of composing require and promise. Assumes nothing.
-use Rattle.std.specs.Prelude.{◌≡◌, cond, List, [], ◌∷◌, ◌++◌, map, ℕ, ◌+◌, ◌-◌, ◌≤◌, min, ltb, ℤ, pos, length}
+use Rattle.std.specs.Prelude.{◌≡◌, cond, List, [], ◌∷◌, ◌++◌, map, ℕ, ◌+◌, ◌-◌, ◌≤◌, min, ltb, ℤ, pos, length, Result}
 use Rattle.refusal.specs.Judge.{rule, judge}
+use Rattle.refusal.specs.declared.Refusal.{Refusal}
 use Rattle.refusal.specs.declared.Refusal.TheVariants.{WorkingLimit}
 use Rattle.expression.specs.Expression.{Expr, node_count}
 use Rattle.expression.specs.Node.{max_variables, max_places, max_nodes, Sound}
@@ -14,7 +15,6 @@ use Rattle.encoding.specs.Encode.{filled, nodes_of, record_of, Holds}
 use Rattle.indexing.specs.Answers.{answered_map}
 use Rattle.encoding.specs.Trees.{constraint_at}
 use Rattle.compose.specs.ComposeMap.{inside_at, substituted, composed_results, composed_constraints, composed_trees, composed_lower, composed_upper, composed_map}
-use Rattle.indexing.specs.declared.AnsweredMap.{AnsweredMap}
 use Rattle.compose.specs.declared.Ends.{Ends}
 use Rattle.compose.specs.declared.BuiltMap.{BuiltMap}
 
@@ -89,6 +89,6 @@ joined_record f g counts nodes lower upper kinds values =
     record_of f.dims (f.ranges + g.ranges) (composed_lower f g) (composed_upper f g) g.results counts (constraint_count f g) nodes lower upper kinds values
 
 -- the map, where 8 does not apply
-abbrev pub ranges_judged : IndexingMap → IndexingMap → IndexingMap → AnsweredMap
+abbrev pub ranges_judged : IndexingMap → IndexingMap → IndexingMap → Result IndexingMap Refusal
 ranges_judged f g m =
     answered_map (judge (rule (good_ranges f) WorkingLimit ∷ rule (good_ranges g) WorkingLimit ∷ rule (good_ranges m) WorkingLimit ∷ [])) m

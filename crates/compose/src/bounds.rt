@@ -10,10 +10,10 @@ fn joined_end<'a>(fs: &'a [i64], gs: &'a [i64], first: usize, place: usize) -> i
     ensures { result ≡ end_at first fs.now gs.now place }
 {
     if place < expression::MAX_VARIABLES + first {
-        return fs[place];
+        fs[place]
+    } else {
+        gs[place - first]
     }
-    let i = place - first;
-    gs[i]
 }
 
 // The ends at all places.
@@ -22,10 +22,8 @@ pub fn joined_ends<'a>(fs: &'a [i64], gs: &'a [i64], first: usize) -> [i64; 24]
     ensures { result ≡ joined_ends first fs.now gs.now }
 {
     let mut out = [0i64; 24];
-    let mut i: usize = 0;
-    while i < 24 {
+    for i in 0..24 {
         out[i] = joined_end(fs, gs, first, i);
-        i += 1;
     }
     out
 }

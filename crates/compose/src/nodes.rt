@@ -12,7 +12,7 @@ ghost use Rattle.compose.specs.Splice.{splice_node, splice, result_nodes};
 ghost use Rattle.compose.specs.Ready.{Joinable, Spliced, SpliceRun};
 
 use expression::{Leaf, Node};
-use indexing::{IndexingMap, Run};
+use indexing::IndexingMap;
 
 // Writes the nodes of a run of a map, which has so many dimensions and range variables.
 fn copy_nodes<'a>(
@@ -30,12 +30,10 @@ fn copy_nodes<'a>(
     ensures { Written (nodes_at dims ranges source.now held.now from count) kinds.old kinds.new values.old values.new at result }
 {
     let mut place = at;
-    let mut j: usize = 0;
-    while j < count {
+    for j in 0..count {
         let i = from + j;
         let node = expression::node_of(dims, ranges, source[i], held[i]);
         place = encoding::write_node(kinds, values, place, node);
-        j += 1;
     }
     place
 }
@@ -45,17 +43,11 @@ pub fn copy_run(m: IndexingMap, i: usize, kinds: &mut [u8], values: &mut [i64], 
     requires { Formed m × (i < runs m) × Room kinds.old values.old at }
     ensures { Written (postfix (expr_at m i)) kinds.old kinds.new values.old values.new at result }
 {
-    let dims = m.dims;
-    let ranges = m.ranges;
-    let source = m.kinds;
-    let held = m.values;
     match indexing::inner::run_of(m, i) {
-        Run::Held(from, count) => {
-            return copy_nodes(&source, &held, dims, ranges, from, count, kinds, values, at);
-        }
-        Run::Cut => {
-            return at;
-        }
+        Some((from, count)) => copy_nodes(
+            &m.kinds, &m.values, m.dims, m.ranges, from, count, kinds, values, at,
+        ),
+        None => at,
     }
 }
 
@@ -72,26 +64,13 @@ fn put_spliced(
     ensures { Written (splice_node (result_nodes f) f.ranges node) kinds.old kinds.new values.old values.new at result }
 {
     match node {
-        Node::Leaf(leaf) => match leaf {
-            Leaf::Dim(n) => {
-                return copy_run(f, n, kinds, values, at);
-            }
-            Leaf::Range(n) => {
-                let moved = Leaf::Range(f.ranges + n);
-                return encoding::write_node(kinds, values, at, Node::Leaf(moved));
-            }
-            Leaf::Constant(_) => {
-                return encoding::write_node(kinds, values, at, node);
-            }
-        },
-        Node::One(_) => {
-            return encoding::write_node(kinds, values, at, node);
+        Node::Leaf(Leaf::Dim(n)) => copy_run(f, n, kinds, values, at),
+        Node::Leaf(Leaf::Range(n)) => {
+            let moved = Leaf::Range(f.ranges + n);
+            encoding::write_node(kinds, values, at, Node::Leaf(moved))
         }
-        Node::Sum => {
-            return encoding::write_node(kinds, values, at, node);
-        }
-        Node::Bad => {
-            return encoding::write_node(kinds, values, at, node);
+        Node::Leaf(Leaf::Constant(_)) | Node::One(_) | Node::Sum | Node::Bad => {
+            encoding::write_node(kinds, values, at, node)
         }
     }
 }
@@ -113,12 +92,10 @@ fn splice_nodes<'a>(
     ensures { Written (splice (result_nodes f) f.ranges (nodes_at dims ranges source.now held.now from count)) kinds.old kinds.new values.old values.new at result }
 {
     let mut place = at;
-    let mut j: usize = 0;
-    while j < count {
+    for j in 0..count {
         let i = from + j;
         let node = expression::node_of(dims, ranges, source[i], held[i]);
         place = put_spliced(f, ranges, node, kinds, values, place);
-        j += 1;
     }
     place
 }
@@ -135,16 +112,10 @@ pub fn splice_run(
     requires { Joinable f g × (i < runs g) × Room kinds.old values.old at }
     ensures { Written (postfix (put_into f (expr_at g i))) kinds.old kinds.new values.old values.new at result }
 {
-    let dims = g.dims;
-    let ranges = g.ranges;
     match indexing::inner::run_of(g, i) {
-        Run::Held(from, count) => {
-            return splice_nodes(
-                f, &g.kinds, &g.values, dims, ranges, from, count, kinds, values, at,
-            );
-        }
-        Run::Cut => {
-            return at;
-        }
+        Some((from, count)) => splice_nodes(
+            f, &g.kinds, &g.values, g.dims, g.ranges, from, count, kinds, values, at,
+        ),
+        None => at,
     }
 }

@@ -21,14 +21,11 @@ pub fn compose_results(
     requires { Joinable f g × Zeros counts.old kinds.old values.old }
     ensures { Gathers [] (composed_results f g) max_results counts.new kinds.new values.new result }
 {
-    let results = g.results;
     let mut at: usize = 0;
-    let mut i: usize = 0;
-    while i < results {
+    for i in 0..g.results {
         let end = nodes::splice_run(g, i, f, kinds, values, at);
         counts[i] = end - at;
         at = end;
-        i += 1;
     }
     at
 }
@@ -94,19 +91,14 @@ pub fn compose_constraints(
     requires { Joinable f g × (constraint_count f g ≤ max_constraints) × ConstraintZeros counts.old lower.old upper.old × Holds (composed_results f g) kinds.old values.old start }
     ensures { GathersConstraints f g counts.new lower.new upper.new kinds.new values.new result }
 {
-    let constraints = f.constraints + (f.results + g.constraints);
     let mut at = start;
-    let mut k: usize = 0;
-    while k < constraints {
+    for k in 0..f.constraints + (f.results + g.constraints) {
         let end = compose_constraint(f, g, k, kinds, values, at);
         let ends = ends_of(f, g, k);
-        let low = ends.lower;
-        let high = ends.upper;
         counts[k] = end - at;
-        lower[k] = low;
-        upper[k] = high;
+        lower[k] = ends.lower;
+        upper[k] = ends.upper;
         at = end;
-        k += 1;
     }
     at
 }

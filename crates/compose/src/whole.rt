@@ -7,8 +7,8 @@ ghost use Rattle.compose.specs.ComposeMap.{compose_answer, formed_compose};
 ghost use Rattle.compose.specs.Ready.{Composable, Joinable, constraint_count, joined_record, Builds, ranges_judged};
 
 use super::{BuiltMap, bounds, parts};
-use indexing::{AnsweredMap, IndexingMap};
-use refusal::{Refusal, Verdict};
+use indexing::IndexingMap;
+use refusal::Refusal;
 
 // The record of the variables of both maps and of results and constraints that stand in arrays.
 fn joined_record(
@@ -69,62 +69,48 @@ fn built_map(f: IndexingMap, g: IndexingMap) -> BuiltMap
 }
 
 // The composed map, where 8 does not apply to either map or to it.
-fn judged_ranges(f: IndexingMap, g: IndexingMap, map: IndexingMap) -> AnsweredMap
+fn judged_ranges(f: IndexingMap, g: IndexingMap, map: IndexingMap) -> Result<IndexingMap, Refusal>
     requires { Formed f × Formed g × Formed map }
     ensures { result ≡ ranges_judged f g map }
 {
-    if !indexing::inner::good_ranges(f) {
-        return indexing::inner::refused_map(Refusal::WorkingLimit);
+    if !indexing::inner::good_ranges(f)
+        || !indexing::inner::good_ranges(g)
+        || !indexing::inner::good_ranges(map)
+    {
+        return Err(Refusal::WorkingLimit);
     }
-    if !indexing::inner::good_ranges(g) {
-        return indexing::inner::refused_map(Refusal::WorkingLimit);
-    }
-    if !indexing::inner::good_ranges(map) {
-        return indexing::inner::refused_map(Refusal::WorkingLimit);
-    }
-    AnsweredMap {
-        verdict: Verdict::Done,
-        map,
-    }
+    Ok(map)
 }
 
 // Two maps composed to which 2, 6 and 7 do not apply: 7 of the result, then 8.
-fn compose_formed(f: IndexingMap, g: IndexingMap) -> AnsweredMap
+fn compose_formed(f: IndexingMap, g: IndexingMap) -> Result<IndexingMap, Refusal>
     requires { Composable f g }
     ensures { result ≡ formed_compose f g }
 {
-    if expression::MAX_VARIABLES < f.ranges + g.ranges {
-        return indexing::inner::refused_map(Refusal::CountLimit);
-    }
-    if indexing::MAX_CONSTRAINTS < f.constraints + (f.results + g.constraints) {
-        return indexing::inner::refused_map(Refusal::CountLimit);
+    if expression::MAX_VARIABLES < f.ranges + g.ranges
+        || indexing::MAX_CONSTRAINTS < f.constraints + (f.results + g.constraints)
+    {
+        return Err(Refusal::CountLimit);
     }
     let b = built_map(f, g);
     if expression::MAX_NODES < b.nodes {
-        return indexing::inner::refused_map(Refusal::CountLimit);
+        return Err(Refusal::CountLimit);
     }
-    let map = b.map;
-    judged_ranges(f, g, map)
+    judged_ranges(f, g, b.map)
 }
 
 // f then g as one map, not folded: refused with 2, 6, 7 of either map or of the result, or 8 of either map or of the result.
-pub fn compose(f: IndexingMap, g: IndexingMap) -> AnsweredMap
+pub fn compose(f: IndexingMap, g: IndexingMap) -> Result<IndexingMap, Refusal>
     ensures { map_answer result ≡ compose_answer f g }
 {
-    if !indexing::inner::good_parts(f) {
-        return indexing::inner::refused_map(Refusal::Attribute);
-    }
-    if !indexing::inner::good_parts(g) {
-        return indexing::inner::refused_map(Refusal::Attribute);
+    if !indexing::inner::good_parts(f) || !indexing::inner::good_parts(g) {
+        return Err(Refusal::Attribute);
     }
     if f.results != g.dims {
-        return indexing::inner::refused_map(Refusal::WrongLength);
+        return Err(Refusal::WrongLength);
     }
-    if !indexing::inner::good_counts(f) {
-        return indexing::inner::refused_map(Refusal::CountLimit);
-    }
-    if !indexing::inner::good_counts(g) {
-        return indexing::inner::refused_map(Refusal::CountLimit);
+    if !indexing::inner::good_counts(f) || !indexing::inner::good_counts(g) {
+        return Err(Refusal::CountLimit);
     }
     compose_formed(f, g)
 }

@@ -1,39 +1,23 @@
 // The requests on multipliers, `multiplier D` and `quotient N D`, and the answers to them.
 #![tactic(auto)]
 
-use reading::{Cursor, finish, read_unsigned};
-use reciprocal::Reckoned;
-use std::io;
+use reading::Line;
 use std::io::Write;
-use writing::{error, labelled, refused};
+use writing::Failure;
 
-pub fn answer_multiplier<W: Write>(line: &[u8], from: Cursor, out: &mut W) -> io::Result<()> {
-    let divisor = read_unsigned(line, from);
-    let end = finish(line, divisor.next);
-    if !end.ok {
-        return error(out, end.at);
-    }
-    reckoned(out, b"multiplier ", reciprocal::multiplier(divisor.value))
+pub fn answer_multiplier<W: Write>(mut line: Line<'_>, out: &mut W) -> Result<(), Failure> {
+    let divisor = line.unsigned()?;
+    line.finish()?;
+    let multiplier = reciprocal::multiplier(divisor)?;
+    write!(out, "multiplier {multiplier}")?;
+    Ok(())
 }
 
-pub fn answer_quotient<W: Write>(line: &[u8], from: Cursor, out: &mut W) -> io::Result<()> {
-    let number = read_unsigned(line, from);
-    let divisor = read_unsigned(line, number.next);
-    let end = finish(line, divisor.next);
-    if !end.ok {
-        return error(out, end.at);
-    }
-    reckoned(
-        out,
-        b"quotient ",
-        reciprocal::quotient(number.value, divisor.value),
-    )
-}
-
-// A number behind its label, or a refusal.
-fn reckoned<W: Write>(out: &mut W, label: &[u8], answer: Reckoned) -> io::Result<()> {
-    match answer {
-        Reckoned::Number(n) => labelled(out, label, n),
-        Reckoned::Refused(r) => refused(out, r),
-    }
+pub fn answer_quotient<W: Write>(mut line: Line<'_>, out: &mut W) -> Result<(), Failure> {
+    let number = line.unsigned()?;
+    let divisor = line.unsigned()?;
+    line.finish()?;
+    let quotient = reciprocal::quotient(number, divisor)?;
+    write!(out, "quotient {quotient}")?;
+    Ok(())
 }

@@ -1,4 +1,5 @@
 -- A record made of trees gives them back, and keeps the rules of maps where they do. Assumes nothing.
+use Rattle.std.specs.Prelude.{None}
 use mathlib.Core.Path.{◌≡◌, refl, sym, ap, ap₂, ◌∙◌, subst}
 use mathlib.Core.Bool.{Bool, true, false, cond, ◌&&◌}
 use mathlib.Core.List.{List, [], ◌∷◌, ◌++◌, map, append_assoc}
@@ -13,14 +14,14 @@ use lib.ListN.{length, get_or, take, drop, replicate, length-append, length-map,
 use lib.Seq.{take-suc, take-length, split_at, drop_at, get_or-append-add, get_or-drop}
 use Rattle.integer.specs.Exact.{limit}
 use Rattle.radix.specs.Radix.{every}
-use Rattle.radix.proofs.Tests.{and-true, every-all}
+use Rattle.radix.proofs.Tests.{every-agree, and-true, every-all}
 use Rattle.expression.specs.Expression.{Expr, node_count, Range, span, small_ranges}
 use Rattle.expression.specs.Node.{max_variables, max_nodes, nodes_at}
 use Rattle.expression.specs.Decode.{Tree, tree, decode, is_tree}
 use Rattle.expression.specs.Value.{point_of, bounds}
 use Rattle.expression.specs.Reckon.{range_in, is_kept}
 use Rattle.expression.specs.declared.Node.{Node}
-use Rattle.expression.specs.declared.Reckoned.TheVariants as R
+use Rattle.expression.proofs.Ends.{kept}
 use Rattle.indexing.specs.Map.{max_results, max_constraints, max_bound, good_interval, good_ends_at, good_intervals, start_of, count_in, runs, count_of, tree_at, is_held, good_tree, good_bounds, good_ends, good_trees, good_parts, good_counts, kept_at, good_ranges, SameAt}
 use Rattle.indexing.specs.declared.IndexingMap.{IndexingMap}
 use Rattle.folding.specs.Map.{Constraint}
@@ -40,10 +41,6 @@ and_assoc false b c = refl
 and-id : (a : Bool) → (a && true) ≡ a
 and-id true = refl
 and-id false = refl
-
-every-same : (f g : ℕ → Bool) (n : ℕ) → ((k : ℕ) → k < n → f k ≡ g k) → every f n ≡ every g n
-every-same f g zero h = refl
-every-same f g (suc n) h = ap₂ (λ (a b : Bool). a && b) (every-same f g n (λ k l. h k (omega arith))) (h n (omega arith))
 
 every_front : (f : ℕ → Bool) (n : ℕ) → every f (suc n) ≡ (f 0 && every (λ (k : ℕ). f (suc k)) n)
 every_front f zero = sym (and-id (f 0))
@@ -224,7 +221,7 @@ module _ (dims ranges : ℕ) (lower upper : List ℤ) (results : List Expr) (con
   same-intervals : (n i : ℕ) → ((k : ℕ) → k < n → SameAt m.lower m.upper lower upper (i + k))
       → good_intervals max_bound m.lower m.upper i n ≡ good_intervals max_bound lower upper i n
   unfolding good_intervals
-  same-intervals n i h = every-same _ _ n (λ k l. let a = h k l in ap₂ (good_interval max_bound) a.0 a.1)
+  same-intervals n i h = every-agree _ _ n (λ k l. let a = h k l in ap₂ (good_interval max_bound) a.0 a.1)
 
   pub encoded-bounds : good_bounds m ≡ (good_intervals max_bound lower upper 0 dims && good_intervals max_bound lower upper max_variables ranges)
   unfolding good_bounds encode_map
@@ -282,6 +279,6 @@ module _ (dims ranges : ℕ) (lower upper : List ℤ) (results : List Expr) (con
       zero-tree : Expr
       zero-tree = Expr.const (pos 0)
 
-      kept-is : (b : Bool) (r : Range) → is_kept (cond b (R.Kept r.lo r.hi) R.Passed) ≡ b
+      kept-is : (b : Bool) (r : Range) → is_kept (cond b (kept r.lo r.hi) None) ≡ b
       kept-is true r = refl
       kept-is false r = refl

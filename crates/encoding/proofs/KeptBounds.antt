@@ -1,43 +1,70 @@
--- Bounds by places, kept below the counts one after another, and records made of the same parts. Assumes nothing.
-use mathlib.Core.Path.{◌≡◌, sym, ap₂, ◌∙◌, subst}
-use mathlib.Core.List.{List}
-use Prim.Native.Nat.{ℕ, ◌+◌, ◌-◌, ◌<◌, ◌≤◌}
+-- Bounds copied into an array of zeros, and records made of the same parts. Assumes nothing.
+use mathlib.Core.Path.{◌≡◌, sym, ap, ap₂, ◌∙◌}
+use mathlib.Core.List.{List, ◌++◌, append_assoc}
+use Prim.Native.Nat.{ℕ, ◌+◌, ◌-◌, ◌*◌}
 use native.Mathlib.Omega.{arith}
-use native.Mathlib.Decide.{dec_lt}
 use lib.IntN.{ℤ, pos}
-use lib.ListN.{length, get_or}
-use lib.Seq.{ext_get_or}
+use lib.ListN.{length, length-take, length-drop, take, drop, replicate}
+use lib.Seq.{take-append-add, drop-append-add}
+use borrow.Rule.Slice.PartMut.{put_mid}
+use Rattle.std.proofs.lemmas.List.{take-replicate, drop-replicate, replicate-append-replicate}
 use Rattle.expression.specs.Node.{max_variables, max_places}
-use Rattle.encoding.specs.Encode.{bounds_of, record_of, Bounded}
-use Rattle.encoding.proofs.Bounds.{bounds-length, bound-dimension, bound-range, bound-no-dimension, bound-no-range, bound-no-runtime}
+use Rattle.encoding.specs.Encode.{filled, bounds_of, record_of, Bounded}
+use Rattle.encoding.proofs.Filled.{filled_is}
 
-module _ {l : List ℤ} {dims ranges : ℕ} (b : Bounded l dims ranges) (place : ℕ) where
-  pub bound-dim : place < dims → get_or l place (pos 0) ≡ get_or (bounds_of dims ranges l) place (pos 0)
-  bound-dim h = sym (bound-dimension dims ranges l place h b.few-dims)
+abbrev zeros : ℕ → List ℤ
+zeros n = replicate n (pos 0)
 
-  pub bound-past-dims : place < max_variables → dims ≤ place → pos 0 ≡ get_or (bounds_of dims ranges l) place (pos 0)
-  bound-past-dims h k = sym (bound-no-dimension dims ranges l place k h)
+-- an array of zeros into which the bounds below the counts are copied, the dimensions' and then the range variables'
+pub copied-bounds : (dims ranges : ℕ) (l xs ys : List ℤ) → Bounded l dims ranges → xs ≡ take dims l → ys ≡ take ranges (drop max_variables l)
+    → put_mid max_variables ranges (xs ++ drop dims (replicate max_places (pos 0))) ys ≡ bounds_of dims ranges l
+copied-bounds dims ranges l xs ys b e f =
+    ap (λ (t : List ℤ). put_mid max_variables ranges (xs ++ t) ys) (drop-replicate dims max_places (pos 0))
+    ∙ ap₂ (λ (s t : List ℤ). s ++ (ys ++ t)) front back
+    ∙ sym
+    (ap₂ (λ (s t : List ℤ). s ++ (t ++ zeros max_variables)) first second
+    ∙ ap (λ (t : List ℤ). (xs ++ zeros (max_variables - dims)) ++ t)
+    (append_assoc ys (zeros (max_variables - ranges)) (zeros max_variables)
+    ∙ ap (λ (t : List ℤ). ys ++ t)
+    (replicate-append-replicate (max_variables - ranges) max_variables (pos 0)
+    ∙ ap zeros (let q : max_variables - ranges + max_variables ≡ 2 * max_variables - ranges = omega (arith, b.few-ranges) in q))))
+  where
+    long-first : length (take dims l) ≡ dims
+    long-first = omega (arith, length-take dims l, b.long, b.few-dims)
 
-  pub bound-ranged : max_variables ≤ place → place - max_variables < ranges → get_or l place (pos 0) ≡ get_or (bounds_of dims ranges l) place (pos 0)
-  bound-ranged h k =
-      let e : max_variables + (place - max_variables) ≡ place = omega arith in
-      subst (λ (n : ℕ). get_or l n (pos 0) ≡ get_or (bounds_of dims ranges l) n (pos 0)) e (sym (bound-range dims ranges l (place - max_variables) k b.few-ranges))
+    long-second : length (take ranges (drop max_variables l)) ≡ ranges
+    long-second = omega (arith, length-take ranges (drop max_variables l), length-drop max_variables l, b.long, b.few-ranges)
 
-  pub bound-past-ranges : place < max_places → max_variables ≤ place → ranges ≤ place - max_variables → pos 0 ≡ get_or (bounds_of dims ranges l) place (pos 0)
-  bound-past-ranges h k i = go (dec_lt (place - max_variables) max_variables)
-    where
-      go : Dec (place - max_variables < max_variables) → pos 0 ≡ get_or (bounds_of dims ranges l) place (pos 0)
-      go (yes q) =
-          let e : max_variables + (place - max_variables) ≡ place = omega arith in
-          subst (λ (n : ℕ). pos 0 ≡ get_or (bounds_of dims ranges l) n (pos 0)) e (sym (bound-no-range dims ranges l (place - max_variables) i q))
-      go (no q) =
-          let e : max_variables + (max_variables + (place - max_variables - max_variables)) ≡ place = omega arith in
-          let m : place - max_variables - max_variables < max_variables = omega arith in
-          subst (λ (n : ℕ). pos 0 ≡ get_or (bounds_of dims ranges l) n (pos 0)) e (sym (bound-no-runtime dims ranges l (place - max_variables - max_variables) m))
+    -- the part of the dimensions, and what stands behind the part of the range variables
+    front : take max_variables (xs ++ zeros (max_places - dims)) ≡ xs ++ zeros (max_variables - dims)
+    front =
+        let n : length xs + (max_variables - dims) ≡ max_variables = omega (arith, ap length e, long-first, b.few-dims) in
+        ap (λ (k : ℕ). take k (xs ++ zeros (max_places - dims))) (sym n)
+        ∙ take-append-add xs (zeros (max_places - dims)) (max_variables - dims)
+        ∙ ap (λ (t : List ℤ). xs ++ t) (take-replicate (max_variables - dims) (max_places - dims) (pos 0) (omega arith))
 
-pub bounds-all : (dims ranges : ℕ) (l : List ℤ) (out : List ℤ) → length out ≡ max_places → ((k : ℕ) → k < max_places → get_or out k (pos 0) ≡ get_or (bounds_of dims ranges l) k (pos 0))
-    → out ≡ bounds_of dims ranges l
-bounds-all dims ranges l out long f = ext_get_or (pos 0) out (bounds_of dims ranges l) (long ∙ sym (bounds-length dims ranges l)) (λ k h. f k (omega (arith, long)))
+    back : drop ranges (drop max_variables (xs ++ zeros (max_places - dims))) ≡ zeros (2 * max_variables - ranges)
+    back =
+        let n : length xs + (max_variables - dims) ≡ max_variables = omega (arith, ap length e, long-first, b.few-dims) in
+        let q : max_places - dims - (max_variables - dims) ≡ 2 * max_variables = omega (arith, b.few-dims) in
+        ap (drop ranges)
+        (ap (λ (k : ℕ). drop k (xs ++ zeros (max_places - dims))) (sym n)
+        ∙ drop-append-add xs (zeros (max_places - dims)) (max_variables - dims)
+        ∙ drop-replicate (max_variables - dims) (max_places - dims) (pos 0)
+        ∙ ap zeros q)
+        ∙ drop-replicate ranges (2 * max_variables) (pos 0)
+
+    first : filled max_variables (pos 0) (take dims l) ≡ xs ++ zeros (max_variables - dims)
+    first =
+        filled_is max_variables (pos 0) (take dims l) (omega (arith, long-first, b.few-dims))
+        ∙ ap₂ (λ (s : List ℤ) (n : ℕ). s ++ drop n (zeros max_variables)) (sym e) long-first
+        ∙ ap (λ (t : List ℤ). xs ++ t) (drop-replicate dims max_variables (pos 0))
+
+    second : filled max_variables (pos 0) (take ranges (drop max_variables l)) ≡ ys ++ zeros (max_variables - ranges)
+    second =
+        filled_is max_variables (pos 0) (take ranges (drop max_variables l)) (omega (arith, long-second, b.few-ranges))
+        ∙ ap₂ (λ (s : List ℤ) (n : ℕ). s ++ drop n (zeros max_variables)) (sym f) long-second
+        ∙ ap (λ (t : List ℤ). ys ++ t) (drop-replicate ranges max_variables (pos 0))
 
 -- ---- records of the same parts
 

@@ -2,12 +2,11 @@
 use mathlib.Core.Path.{◌≡◌, refl, sym, ap, ap₂, ◌∙◌}
 use mathlib.Core.Logic.{⊎_elim}
 use mathlib.Core.List.{List, [], ◌∷◌, ◌++◌, map}
-use Prim.Native.Nat.{ℕ, zero, suc, ◌+◌, ◌<◌}
+use Prim.Native.Nat.{ℕ, zero, suc, ◌<◌}
 use native.Mathlib.Nat.{le_of_suc-le-suc, eq-or-lt_of_le}
-use native.Mathlib.Numerals.{add-one}
 use native.Mathlib.Omega.{arith}
-use lib.ListN.{length, get_or, set, length-append, get_or-append}
-use lib.Seq.{ext_get_or, get_or_at, get_or-set_same, get_or-set_other}
+use lib.ListN.{length, get_or, length-append, get_or-append}
+use lib.Seq.{ext_get_or, get_or_at}
 use Rattle.expression.specs.Expression.{Expr}
 use Rattle.folding.proofs.Map.{AllTrees}
 use Rattle.encoding.proofs.Lists.{map-append}
@@ -39,15 +38,6 @@ module _ {A : Type 0} where
   listed-is f n xs z e h =
       let l = listed-length f n in
       ext_get_or z (listed f n) xs (l ∙ e) (λ k w. let v : k < n = omega arith in listed_at f n k z v ∙ h k v)
-
--- an array that holds f 0, f 1, .. below i, and one entry more
-pub entry_next : {A : Type 0} (f : ℕ → A) (out : List A) (x z : A) (i n : ℕ) → length out ≡ n → i < n → ((k : ℕ) → k < i → get_or out k z ≡ f k) → x ≡ f i
-    → (k : ℕ) → k < i + 1 → get_or (set out i x) k z ≡ f k
-entry_next f out x z i n long h g e k l =
-    ⊎_elim
-    (λ (q : k ≡ i). ap (λ (j : ℕ). get_or (set out i x) j z) q ∙ get_or-set_same out i x z (omega (arith, long)) ∙ e ∙ ap f (sym q))
-    (λ q. get_or-set_other out i k x z (λ (j : k ≡ i). absurd (omega arith)) ∙ g k q)
-    (eq-or-lt_of_le (le_of_suc-le-suc (rw (add-one i) at l)))
 
 pub listed-map : {A B : Type 0} (g : A → B) (f : ℕ → A) (n : ℕ) → map g (listed f n) ≡ listed (λ (k : ℕ). g (f k)) n
 unfolding listed

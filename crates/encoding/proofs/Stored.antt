@@ -1,7 +1,7 @@
 -- Nodes stored one after another, up to the end of the lists. Assumes nothing.
 use mathlib.Core.Path.{◌≡◌, refl, sym, ap, ◌∙◌}
-use mathlib.Core.Bool.{Bool, true, false, cond}
-use mathlib.Core.List.{List, [], ◌∷◌, ◌++◌, map, append-nil}
+use mathlib.Core.Bool.{Bool, false, cond}
+use mathlib.Core.List.{List, [], ◌∷◌, ◌++◌, map}
 use Prim.Native.Nat.{ℕ, suc, ◌+◌, ◌<◌, ◌≤◌, min}
 use native.Mathlib.Omega.{arith}
 use native.Mathlib.Nat.{add-zero, add-suc, suc-add}
@@ -16,7 +16,7 @@ use Rattle.expression.specs.declared.Leaf.TheVariants.{Constant}
 use Rattle.expression.specs.declared.One.TheVariants.{Product}
 use Rattle.words.proofs.Trial.{try-yes, try-no}
 use Rattle.encoding.specs.Postfix.{kind_of, value_of}
-use Rattle.encoding.specs.Written.{counted, factor_nodes, join_nodes, constant_nodes, Room, Put, Written, Kept}
+use Rattle.encoding.specs.Written.{counted, factor_nodes, constant_nodes, Room, Put, Written, Kept}
 use Rattle.encoding.proofs.Lists.{map-append}
 
 -- ---- stores
@@ -111,20 +111,7 @@ constant-added k e = ap (λ (b : Bool). cond b [] (N.Leaf (Constant k) ∷ N.Sum
 
 -- ---- a term's coefficient, and the sum with what stands before it
 
-pub coefficient-alone : (alone : Bool) (c : ℤ) {ks ks' : List ℕ} {vs vs' : List ℤ} {at r : ℕ} → alone ≡ true
-    → Written (factor_nodes c) ks ks' vs vs' at r → Written (factor_nodes c ++ join_nodes alone) ks ks' vs vs' at r
-coefficient-alone alone c h w = rw (h, append-nil (factor_nodes c)) w
-
-pub coefficient-joined : (alone : Bool) (c : ℤ) {ks ks' ks'' : List ℕ} {vs vs' vs'' : List ℤ} {at e r : ℕ} → alone ≡ false → Room ks vs at
-    → Written (factor_nodes c) ks ks' vs vs' at e → Put 2 (pos 0) ks' ks'' vs' vs'' e r
-    → Written (factor_nodes c ++ join_nodes alone) ks ks'' vs vs'' at r
-coefficient-joined alone c h o w p = rw h (both o w (one N.Sum p))
-
 -- ---- a constant that stands alone, or is added
-
-pub constant-alone : (alone : Bool) (k : ℤ) {ks ks' : List ℕ} {vs vs' : List ℤ} {at r : ℕ} → alone ≡ true
-    → Put 1 k ks ks' vs vs' at r → Written (constant_nodes alone k) ks ks' vs vs' at r
-constant-alone alone k h p = rw h (one (N.Leaf (Constant k)) p)
 
 pub constant-zero : (alone : Bool) (k : ℤ) {ks : List ℕ} {vs : List ℤ} {at : ℕ} → alone ≡ false → k ≡ pos 0 → Room ks vs at
     → Written (constant_nodes alone k) ks ks vs vs at at

@@ -13,9 +13,10 @@ fn place_from(start: usize, n: usize) -> i64
     ensures { result ≡ pos (place_from start n) }
 {
     if n < expression::MAX_VARIABLES {
-        return (start + n) as i64;
+        (start + n) as i64
+    } else {
+        writing::NO_PLACE
     }
-    writing::NO_PLACE
 }
 
 // The kind of a node: 0 variable, 1 constant, 2 sum, 3 product, 4 floordiv, 5 mod.
@@ -23,34 +24,13 @@ fn kind_of(node: Node) -> u8
     ensures { result ≡ kind_of node }
 {
     match node {
-        Node::Leaf(leaf) => match leaf {
-            Leaf::Dim(_) => {
-                return 0;
-            }
-            Leaf::Range(_) => {
-                return 0;
-            }
-            Leaf::Constant(_) => {
-                return 1;
-            }
-        },
-        Node::One(one) => match one {
-            One::Product(_) => {
-                return 3;
-            }
-            One::Floordiv(_) => {
-                return 4;
-            }
-            One::Mod(_) => {
-                return 5;
-            }
-        },
-        Node::Sum => {
-            return 2;
-        }
-        Node::Bad => {
-            return 0;
-        }
+        Node::Leaf(Leaf::Dim(_) | Leaf::Range(_)) => 0,
+        Node::Leaf(Leaf::Constant(_)) => 1,
+        Node::Sum => 2,
+        Node::One(One::Product(_)) => 3,
+        Node::One(One::Floordiv(_)) => 4,
+        Node::One(One::Mod(_)) => 5,
+        Node::Bad => 0,
     }
 }
 
@@ -59,34 +39,12 @@ fn value_of(node: Node) -> i64
     ensures { result ≡ value_of node }
 {
     match node {
-        Node::Leaf(leaf) => match leaf {
-            Leaf::Dim(n) => {
-                return place_from(0, n);
-            }
-            Leaf::Range(n) => {
-                return place_from(expression::MAX_VARIABLES, n);
-            }
-            Leaf::Constant(z) => {
-                return z;
-            }
-        },
-        Node::One(one) => match one {
-            One::Product(z) => {
-                return z;
-            }
-            One::Floordiv(z) => {
-                return z;
-            }
-            One::Mod(z) => {
-                return z;
-            }
-        },
-        Node::Sum => {
-            return 0;
-        }
-        Node::Bad => {
-            return writing::NO_PLACE;
-        }
+        Node::Leaf(Leaf::Dim(n)) => place_from(0, n),
+        Node::Leaf(Leaf::Range(n)) => place_from(expression::MAX_VARIABLES, n),
+        Node::Leaf(Leaf::Constant(z)) => z,
+        Node::One(One::Product(z) | One::Floordiv(z) | One::Mod(z)) => z,
+        Node::Sum => 0,
+        Node::Bad => writing::NO_PLACE,
     }
 }
 

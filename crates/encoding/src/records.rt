@@ -1,26 +1,9 @@
 // The record made of parts.
-ghost use Rattle.std.specs.Prelude.{◌≡◌, ◌<◌, ◌≤◌, pos, get_or};
-ghost use Rattle.expression.specs.Node.{max_variables, max_places};
+ghost use Rattle.std.specs.Prelude.{◌≡◌, ◌≤◌};
+ghost use Rattle.expression.specs.Node.{max_variables};
 ghost use Rattle.encoding.specs.Encode.{bounds_of, record_of, Bounded};
 
 use indexing::IndexingMap;
-
-// The bound at a place, below the counts; 0 past them.
-fn bound_at(bounds: &[i64], dims: usize, ranges: usize, place: usize) -> i64
-    requires { Bounded bounds.now dims ranges × (place < max_places) }
-    ensures { result ≡ get_or (bounds_of dims ranges bounds.now) place (pos 0) }
-{
-    if place < expression::MAX_VARIABLES {
-        if place < dims {
-            return bounds[place];
-        }
-        return 0;
-    }
-    if place - expression::MAX_VARIABLES < ranges {
-        return bounds[place];
-    }
-    0
-}
 
 // The bounds below the counts, and 0 past them.
 fn kept_bounds(bounds: &[i64], dims: usize, ranges: usize) -> [i64; 24]
@@ -28,11 +11,9 @@ fn kept_bounds(bounds: &[i64], dims: usize, ranges: usize) -> [i64; 24]
     ensures { result ≡ bounds_of dims ranges bounds.now }
 {
     let mut out = [0i64; 24];
-    let mut i: usize = 0;
-    while i < 24 {
-        out[i] = bound_at(bounds, dims, ranges, i);
-        i += 1;
-    }
+    let second = expression::MAX_VARIABLES;
+    out[..dims].copy_from_slice(&bounds[..dims]);
+    out[second..second + ranges].copy_from_slice(&bounds[second..second + ranges]);
     out
 }
 

@@ -2,9 +2,6 @@
 ghost use Rattle.std.specs.Prelude.{◌≡◌, ◌+◌, min, set, ◌++◌};
 ghost use Rattle.encoding.specs.Written.{counted, factor_nodes, join_nodes, constant_nodes, Room, Put, Written, IsPlace, IsOp};
 
-// Nodes are counted up to one past the most that a map has.
-const COUNTED: usize = expression::MAX_NODES + 1;
-
 // The first place at which there is no variable.
 pub const NO_PLACE: i64 = 16;
 
@@ -26,11 +23,11 @@ fn put_value(values: &mut [i64], at: usize, value: i64)
     }
 }
 
-// One more.
+// One more, but no further than one past the most nodes of a map.
 fn next_place(at: usize) -> usize
     ensures { result ≡ min (at + 1) counted }
 {
-    if at < COUNTED { at + 1 } else { COUNTED }
+    at.min(expression::MAX_NODES) + 1
 }
 
 // Writes a node, if there is room, and counts it.
@@ -48,9 +45,10 @@ fn put_factor(kinds: &mut [u8], values: &mut [i64], at: usize, factor: i64) -> u
     ensures { Written (factor_nodes factor) kinds.old kinds.new values.old values.new at result }
 {
     if factor == 1 {
-        return at;
+        at
+    } else {
+        put_node(kinds, values, at, 3, factor)
     }
-    put_node(kinds, values, at, 3, factor)
 }
 
 // A term's coefficient, and the sum with what stands before it.
@@ -66,9 +64,10 @@ pub fn put_coefficient(
 {
     let end = put_factor(kinds, values, at, coefficient);
     if alone {
-        return end;
+        end
+    } else {
+        put_node(kinds, values, end, 2, 0)
     }
-    put_node(kinds, values, end, 2, 0)
 }
 
 // A constant, which stands alone or is added to what stands before it if it is not 0.
@@ -97,14 +96,14 @@ pub fn place_of(kind: usize, n: usize) -> i64
     ensures { IsPlace kind n result }
 {
     if n < expression::MAX_VARIABLES {
-        if kind == 0 {
-            return n as i64;
+        match kind {
+            0 => n as i64,
+            1 => (expression::MAX_VARIABLES + n) as i64,
+            _ => NO_PLACE,
         }
-        if kind == 1 {
-            return (expression::MAX_VARIABLES + n) as i64;
-        }
+    } else {
+        NO_PLACE
     }
-    NO_PLACE
 }
 
 // The kind of a node of floordiv or mod, by the number of the operation in words.

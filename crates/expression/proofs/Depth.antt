@@ -13,7 +13,6 @@ use Rattle.expression.specs.Machine.{Out, broken, passed, stack, walk}
 use Rattle.expression.specs.Decode.{tree_of, expr_alg, leaf_expr, one_expr, decode, is_tree, depth_step}
 use Rattle.expression.specs.declared.Node.{Node}
 use Rattle.expression.specs.declared.Node.TheVariants as N
-use Rattle.expression.specs.declared.One.{One}
 use Rattle.expression.proofs.Machines.{nodes-next, nodes-end}
 
 abbrev pub depth_then : ℕ → (ℕ → ℕ) → ℕ
@@ -69,21 +68,3 @@ pub eqb-suc : (k : ℕ) → eqb k 1 ≡ eqb (suc k) 2
 eqb-suc zero = refl
 eqb-suc (suc zero) = refl
 eqb-suc (suc (suc k)) = ne_eqb (suc (suc k)) 1 (λ (q : suc (suc k) ≡ 1). omega arith) ∙ sym (ne_eqb (suc (suc (suc k))) 2 (λ (q : suc (suc (suc k)) ≡ 2). omega arith))
-
-pub then-pos : (n : ℕ) (f : ℕ → ℕ) → (n ≡ 0 → ⊥) → depth_then n f ≡ f (n - 1)
-then-pos zero f h = absurd (h refl)
-then-pos (suc n) f h = ap f (let q : n ≡ suc n - 1 = omega arith in q)
-
-pub one-depth : (o : One) (k : ℕ) → (k ≡ 0 → ⊥) → k + 1 ≡ depth_step (N.One o) k
-one-depth o zero h = absurd (h refl)
-one-depth o (suc k) h = omega arith
-
-pub sum-none : (k : ℕ) → k < 2 → 0 ≡ depth_step N.Sum k
-sum-none zero h = refl
-sum-none (suc zero) h = refl
-sum-none (suc (suc k)) h = absurd (omega arith)
-
-pub sum-depth : (k : ℕ) → 2 ≤ k → k ≡ depth_step N.Sum k
-sum-depth zero h = absurd (omega arith)
-sum-depth (suc zero) h = absurd (omega arith)
-sum-depth (suc (suc k)) h = refl

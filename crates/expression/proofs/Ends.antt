@@ -1,4 +1,6 @@
 -- The reckoned range of each kind of node, in the numbers that the code works out. Assumes nothing.
+use Rattle.std.specs.Prelude.{Option, Some, None}
+use Rattle.std.specs.Option.{option_zip}
 use mathlib.Core.Path.{◌≡◌, refl, ap}
 use mathlib.Core.Bool.{Bool, true, false, cond, ◌&&◌}
 use Prim.Native.Nat.{ℕ, suc, ◌-◌, ◌/◌, ◌%◌, ◌<◌, ◌≤◌}
@@ -9,18 +11,20 @@ use lib.IntN.{ℤ, pos, negsuc, nat_abs, ◌*ℤ◌}
 use lib.Signed.{lt_z}
 use Rattle.integer.specs.Floor.{floor_div, floor_mod}
 use Rattle.integer.specs.Exact.{limit, exactly}
-use Rattle.integer.specs.declared.Exact.TheVariants.{Value, Passed}
 use Rattle.expression.specs.Expression.{floordiv, modulo, span, eqℤ, mul_range, op_range, is_small}
 use Rattle.expression.specs.Node.{max_divisor}
-use Rattle.expression.specs.Reckon.{both_of, reckon}
-use Rattle.expression.specs.declared.Reckoned.TheVariants as R
+use Rattle.expression.specs.Reckon.{reckon}
 
-kept-both : (p q : Bool) (a b : ℤ) → both_of (cond p (Value a) Passed) (cond q (Value b) Passed) ≡ cond (p && q) (R.Kept a b) R.Passed
+-- a range that is kept, by its ends
+abbrev pub kept : ℤ → ℤ → Option (ℤ × ℤ)
+kept a b = Some (a, b)
+
+kept-both : (p q : Bool) (a b : ℤ) → option_zip (cond p (Some a) None) (cond q (Some b) None) ≡ cond (p && q) (kept a b) None
 kept-both true true a b = refl
 kept-both true false a b = refl
 kept-both false q a b = refl
 
-pub both-exact : (a b : ℤ) → both_of (exactly a) (exactly b) ≡ reckon (span a b)
+pub both-exact : (a b : ℤ) → option_zip (exactly a) (exactly b) ≡ reckon (span a b)
 unfolding exactly reckon
 both-exact a b = kept-both (is_small a) (is_small b) a b
 
@@ -33,7 +37,7 @@ small-mod (pos a) c h k = le-leb (a % c) limit (omega (arith, mod-lt a h))
 small-mod (negsuc a) c h k = le-leb (c - suc (a % c)) limit (omega arith)
 
 -- a range that is kept
-pub keeps : (a b : ℤ) → is_small a ≡ true → is_small b ≡ true → R.Kept a b ≡ reckon (span a b)
+pub keeps : (a b : ℤ) → is_small a ≡ true → is_small b ≡ true → kept a b ≡ reckon (span a b)
 unfolding reckon
 keeps a b p q = rw (p, q)
 
@@ -52,15 +56,15 @@ eqℤ-other (negsuc a) (pos b) f = refl
 eqℤ-other (negsuc a) (negsuc b) f = ne_eqb a b (λ e. f (ap negsuc e))
 
 module _ (lo hi : ℤ) (c : ℕ) where
-  pub floor-range : nat_abs lo ≤ limit → nat_abs hi ≤ limit → R.Kept (floor_div lo c) (floor_div hi c) ≡ reckon (op_range floordiv (span lo hi) c)
+  pub floor-range : nat_abs lo ≤ limit → nat_abs hi ≤ limit → kept (floor_div lo c) (floor_div hi c) ≡ reckon (op_range floordiv (span lo hi) c)
   unfolding op_range
   floor-range p q = (keeps (floor_div lo c) (floor_div hi c) (small-floor lo c p) (small-floor hi c q))
 
-  pub mod_same : 0 < c → c ≤ max_divisor → floor_div lo c ≡ floor_div hi c → R.Kept (floor_mod lo c) (floor_mod hi c) ≡ reckon (op_range modulo (span lo hi) c)
+  pub mod_same : 0 < c → c ≤ max_divisor → floor_div lo c ≡ floor_div hi c → kept (floor_mod lo c) (floor_mod hi c) ≡ reckon (op_range modulo (span lo hi) c)
   unfolding op_range
   mod_same h k e = rw (eqℤ-same (floor_div lo c) (floor_div hi c) e) (keeps (floor_mod lo c) (floor_mod hi c) (small-mod lo c h k) (small-mod hi c h k))
 
-  pub mod-other : c ≤ max_divisor → (floor_div lo c ≡ floor_div hi c → ⊥) → R.Kept (pos 0) (pos (c - 1)) ≡ reckon (op_range modulo (span lo hi) c)
+  pub mod-other : c ≤ max_divisor → (floor_div lo c ≡ floor_div hi c → ⊥) → kept (pos 0) (pos (c - 1)) ≡ reckon (op_range modulo (span lo hi) c)
   unfolding op_range
   mod-other k f = rw (eqℤ-other (floor_div lo c) (floor_div hi c) f) (keeps (pos 0) (pos (c - 1)) refl (le-leb (c - 1) limit (omega arith)))
 

@@ -1,4 +1,5 @@
 -- The walks of ranges and of values, by the tree that the nodes are. Assumes nothing.
+use Rattle.std.specs.Prelude.{Option, None}
 use mathlib.Core.Path.{◌≡◌, refl, sym, ap, ◌∙◌, subst}
 use mathlib.Core.Bool.{Bool, true, false, cond}
 use mathlib.Core.List.{List, [], ◌∷◌}
@@ -15,17 +16,16 @@ use Rattle.expression.specs.declared.Leaf.{Leaf}
 use Rattle.expression.specs.declared.Leaf.TheVariants as L
 use Rattle.expression.specs.declared.One.{One}
 use Rattle.expression.specs.declared.One.TheVariants.{Product, Floordiv, Mod}
-use Rattle.expression.specs.declared.Reckoned.{Reckoned}
-use Rattle.expression.specs.declared.Reckoned.TheVariants as R
+use Rattle.expression.proofs.Ends.{kept}
 use Rattle.expression.proofs.Decoded.{keep_if, fits, meant}
 
 -- what a walk of ranges ends with
-abbrev pub reckoned : Out Range → Reckoned
-reckoned broken = R.Passed
-reckoned passed = R.Passed
-reckoned (stack []) = R.Passed
-reckoned (stack (r ∷ [])) = R.Kept r.lo r.hi
-reckoned (stack (r ∷ (q ∷ st))) = R.Passed
+abbrev pub reckoned : Out Range → Option (ℤ × ℤ)
+reckoned broken = None
+reckoned passed = None
+reckoned (stack []) = None
+reckoned (stack (r ∷ [])) = kept r.lo r.hi
+reckoned (stack (r ∷ (q ∷ st))) = None
 
 module _ (lo hi : List ℤ) where
   rl : (l : Leaf) → range_of (bounds lo hi) (leaf_expr l) ≡ span (placed_leaf lo l) (placed_leaf hi l)
@@ -52,7 +52,7 @@ module _ (lo hi : List ℤ) where
   fed-if true r = tt
   fed-if false r = tt
 
-  range-if : (b : Bool) (r : Range) → reckoned (keep_if b (stack (r ∷ []))) ≡ cond b (R.Kept r.lo r.hi) R.Passed
+  range-if : (b : Bool) (r : Range) → reckoned (keep_if b (stack (r ∷ []))) ≡ cond b (kept r.lo r.hi) None
   range-if true r = refl
   range-if false r = refl
 

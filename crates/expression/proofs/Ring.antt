@@ -1,11 +1,8 @@
 -- Laws of ℤ: the ring laws as one set of rules, and floor division by a quotient and a remainder. Assumes nothing.
 use mathlib.Core.Path.{◌≡◌, refl, sym, ap, ◌∙◌}
-use mathlib.Core.Bool.{Bool, true, false, cond, not}
-use Prim.Native.Nat.{ℕ, zero, suc, ◌*◌, ◌-◌, ◌<◌, ◌≤◌}
+use Prim.Native.Nat.{ℕ, zero, suc, ◌*◌, ◌<◌}
 use native.Mathlib.Nat.{mod-lt}
 use native.Mathlib.Omega.{arith}
-use lib.Dec.{T, ltb, lt→ltb}
-use lib.Arith.{le→nltb}
 use lib.IntN.{ℤ, pos, negsuc, neg_ℤ, sub_ℕ, nat_abs, ◌+ℤ◌, ◌*ℤ◌, +ℤ_assoc, +ℤ_comm, +ℤ_idl, +ℤ_idr, +ℤ_invl, +ℤ_invr, *ℤ_comm, zero-*ℤ, neg_ℤ-+ℤ, neg_ℤ-neg_ℤ}
 use Rattle.integer.specs.Floor.{floor_div, floor_mod}
 use Rattle.integer.proofs.Laws.{*ℤ-distribl, *ℤ-assoc, div-mod, div-unique, mod-unique}
@@ -50,24 +47,6 @@ cancel-mid' a b = sym (+ℤ_assoc (neg_ℤ a) a b) ∙ ap (λ x. x +ℤ b) (+ℤ
 pub ruleset ringℤ = (*ℤ-distribr, *ℤ-distribl, +ℤ_assoc, +ℤ_comm, +ℤ-left, *ℤ-assoc, *ℤ_comm, *ℤ-left, negℤ-*ℤ, *ℤ-negℤ, neg_ℤ-+ℤ, neg_ℤ-neg_ℤ, cancel-mid, cancel-mid', +ℤ_invr, +ℤ_invl, +ℤ_idl, +ℤ_idr)
 
 -- ---- a difference of natural numbers
-
-T_true : (b : Bool) → T b → b ≡ true
-T_true true t = refl
-T_true false t = absurd t
-
-T_false : (b : Bool) → T (not b) → b ≡ false
-T_false true t = absurd t
-T_false false t = refl
-
-subℕ-lt : (a b : ℕ) → a < b → sub_ℕ a b ≡ negsuc (b - suc a)
-subℕ-lt a b h = ap (λ x. cond x (negsuc (b - suc a)) (pos (a - b))) (T_true (ltb a b) (lt→ltb a b h))
-
-pub subℕ-ge : (a b : ℕ) → b ≤ a → sub_ℕ a b ≡ pos (a - b)
-subℕ-ge a b h = ap (λ x. cond x (negsuc (b - suc a)) (pos (a - b))) (T_false (ltb a b) (le→nltb a b h))
-
--- −(suc n) + r, for r ≤ n
-pub neg-plus : (n r : ℕ) → r ≤ n → negsuc n +ℤ pos r ≡ negsuc (n - r)
-neg-plus n r h = subℕ-lt r (suc n) (omega arith) ∙ ap negsuc (omega arith)
 
 -- ---- floor division by a quotient and a remainder
 

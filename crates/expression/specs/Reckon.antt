@@ -1,7 +1,5 @@
 -- The reckoned range of a tree by the bounds of its variables, and the machine that finds it. Assumes nothing.
-use Rattle.std.specs.Prelude.{Bool, true, false, cond, List, [], ◌∷◌, ℕ, ◌+◌, ◌≤◌, ℤ, pos, nat_abs, drop}
-use Rattle.integer.specs.declared.Exact.{Exact}
-use Rattle.integer.specs.declared.Exact.TheVariants.{Value, Passed}
+use Rattle.std.specs.Prelude.{Bool, true, false, cond, List, [], ◌∷◌, ℕ, ◌+◌, ◌≤◌, ℤ, pos, nat_abs, drop, Option, Some, None}
 use Rattle.expression.specs.Expression.{floordiv, modulo, Range, span, add_range, mul_range, op_range, range_of, small_range, small_ranges}
 use Rattle.expression.specs.Node.{max_variables, max_nodes}
 use Rattle.expression.specs.Machine.{Out, passed, stack, Alg}
@@ -10,39 +8,29 @@ use Rattle.expression.specs.Value.{bounds, leaf_value}
 use Rattle.expression.specs.declared.Leaf.{Leaf}
 use Rattle.expression.specs.declared.One.{One}
 use Rattle.expression.specs.declared.One.TheVariants.{Product, Floordiv, Mod}
-use Rattle.expression.specs.declared.Reckoned.{Reckoned}
-use Rattle.expression.specs.declared.Reckoned.TheVariants as R
-use Rattle.expression.specs.declared.Step.{Step}
-use Rattle.expression.specs.declared.Step.TheVariants as S
 
 -- a range that is kept within the limit
-unfoldable pub reckon : Range → Reckoned
-reckon r = cond (small_range r) (R.Kept r.lo r.hi) R.Passed
+unfoldable pub reckon : Range → Option (ℤ × ℤ)
+reckon r = cond (small_range r) (Some (r.lo, r.hi)) None
 
 -- the range of a tree, where every node's range lies within the limit
-abbrev pub range_in : List ℤ → List ℤ → Tree → Reckoned
-range_in lower upper none = R.Passed
+abbrev pub range_in : List ℤ → List ℤ → Tree → Option (ℤ × ℤ)
+range_in lower upper none = None
 range_in lower upper (tree e) =
     let r = range_of (bounds lower upper) e in
-    cond (small_ranges (bounds lower upper) e) (R.Kept r.lo r.hi) R.Passed
+    cond (small_ranges (bounds lower upper) e) (Some (r.lo, r.hi)) None
 
-abbrev pub is_kept : Reckoned → Bool
-is_kept (R.Kept a b) = true
-is_kept R.Passed = false
+abbrev pub is_kept : Option (ℤ × ℤ) → Bool
+is_kept (Some (a, b)) = true
+is_kept None = false
 
-abbrev pub low_end : Reckoned → ℤ
-low_end (R.Kept a b) = a
-low_end R.Passed = pos 0
+abbrev pub low_end : Option (ℤ × ℤ) → ℤ
+low_end (Some (a, b)) = a
+low_end None = pos 0
 
-abbrev pub high_end : Reckoned → ℤ
-high_end (R.Kept a b) = b
-high_end R.Passed = pos 0
-
--- two exact ends
-abbrev pub both_of : Exact → Exact → Reckoned
-both_of (Value a) (Value b) = R.Kept a b
-both_of (Value a) Passed = R.Passed
-both_of Passed y = R.Passed
+abbrev pub high_end : Option (ℤ × ℤ) → ℤ
+high_end (Some (a, b)) = b
+high_end None = pos 0
 
 abbrev pub one_range : One → Range → Range
 one_range (Product z) r = mul_range z r
@@ -70,10 +58,10 @@ zip_ranges (x ∷ xs) [] = []
 zip_ranges (x ∷ xs) (y ∷ ys) = span x y ∷ zip_ranges xs ys
 
 -- where the two stacks start, or past the limit
-abbrev pub out_of : Step → List ℤ → List ℤ → Out Range
-out_of (S.At t) lows highs = stack (drop t (zip_ranges lows highs))
-out_of S.Over lows highs = passed
+abbrev pub out_of : Option ℕ → List ℤ → List ℤ → Out Range
+out_of (Some t) lows highs = stack (drop t (zip_ranges lows highs))
+out_of None lows highs = passed
 
-abbrev pub Near : Step → ℕ → Type 0
-Near (S.At t) top = (t ≤ max_nodes) × (top ≤ t + 1)
-Near S.Over top = Unit {0}
+abbrev pub Near : Option ℕ → ℕ → Type 0
+Near (Some t) top = (t ≤ max_nodes) × (top ≤ t + 1)
+Near None top = Unit {0}

@@ -35,17 +35,3 @@ pub enum Node {
     Sum,
     Bad,
 }
-
-// A reckoned range, or that it passes the limit.
-#[derive(Clone, Copy)]
-pub enum Reckoned {
-    Kept(i64, i64),
-    Passed,
-}
-
-// Where the stacks of ends start after a node, or that its range passes the limit.
-#[derive(Clone, Copy)]
-pub enum Step {
-    At(usize),
-    Over,
-}

@@ -18,84 +18,56 @@ const MAX_DIVISOR: i64 = 1 << 40;
 pub fn is_small(value: i64) -> bool
     ensures { result ≡ is_small value }
 {
-    if value < -integer::LIMIT {
-        return false;
-    }
-    value <= integer::LIMIT
+    integer::magnitude(value) <= integer::LIMIT as u64
 }
 
 // Whether a value is a divisor.
 fn is_divisor(value: i64) -> bool
     ensures { result ≡ is_divisor value }
 {
-    if value < 1 {
-        return false;
-    }
-    value <= MAX_DIVISOR
+    1 <= value && value <= MAX_DIVISOR
 }
 
 // The variable at a place, with dims dimensions and ranges range variables.
 fn variable_node(dims: usize, ranges: usize, value: i64) -> Node
     ensures { result ≡ variable_node dims ranges value }
 {
-    if value < 0 {
+    let Ok(p) = usize::try_from(value) else {
         return Node::Bad;
-    }
-    let p = value as usize;
+    };
     if p < MAX_VARIABLES {
         if p < dims {
-            return Node::Leaf(Leaf::Dim(p));
+            Node::Leaf(Leaf::Dim(p))
+        } else {
+            Node::Bad
         }
-        return Node::Bad;
+    } else if p < 2 * MAX_VARIABLES && p - MAX_VARIABLES < ranges {
+        Node::Leaf(Leaf::Range(p - MAX_VARIABLES))
+    } else {
+        Node::Bad
     }
-    if p < 2 * MAX_VARIABLES {
-        let n = p - MAX_VARIABLES;
-        if n < ranges {
-            return Node::Leaf(Leaf::Range(n));
-        }
-    }
-    Node::Bad
 }
 
 // A node over one tree, by its kind.
 fn one_node(kind: u8, value: i64) -> Node
     ensures { result ≡ one_node kind value }
 {
-    if kind == 3 {
-        if is_small(value) {
-            return Node::One(One::Product(value));
-        }
-        return Node::Bad;
+    match kind {
+        3 if is_small(value) => Node::One(One::Product(value)),
+        4 if is_divisor(value) => Node::One(One::Floordiv(value)),
+        5 if is_divisor(value) => Node::One(One::Mod(value)),
+        _ => Node::Bad,
     }
-    if kind == 4 {
-        if is_divisor(value) {
-            return Node::One(One::Floordiv(value));
-        }
-        return Node::Bad;
-    }
-    if kind == 5 {
-        if is_divisor(value) {
-            return Node::One(One::Mod(value));
-        }
-    }
-    Node::Bad
 }
 
 // What a node's kind and value say, with dims dimensions and ranges range variables.
 pub fn node_of(dims: usize, ranges: usize, kind: u8, value: i64) -> Node
     ensures { result ≡ node_of dims ranges kind value }
 {
-    if kind == 0 {
-        return variable_node(dims, ranges, value);
+    match kind {
+        0 => variable_node(dims, ranges, value),
+        1 if is_small(value) => Node::Leaf(Leaf::Constant(value)),
+        2 => Node::Sum,
+        _ => one_node(kind, value),
     }
-    if kind == 1 {
-        if is_small(value) {
-            return Node::Leaf(Leaf::Constant(value));
-        }
-        return Node::Bad;
-    }
-    if kind == 2 {
-        return Node::Sum;
-    }
-    one_node(kind, value)
 }

@@ -14,15 +14,9 @@ pub fn leaf_value(ds: &[i64], ss: &[i64], leaf: Leaf) -> i64
     ensures { result ≡ leaf_value ds.now ss.now leaf }
 {
     match leaf {
-        Leaf::Dim(n) => {
-            return ds[n];
-        }
-        Leaf::Range(n) => {
-            return ss[n];
-        }
-        Leaf::Constant(z) => {
-            return z;
-        }
+        Leaf::Dim(n) => ds[n],
+        Leaf::Range(n) => ss[n],
+        Leaf::Constant(z) => z,
     }
 }
 
@@ -32,15 +26,9 @@ fn one_value(one: One, a: i64) -> i64
     ensures { result ≡ one_value one a }
 {
     match one {
-        One::Product(z) => {
-            return z * a;
-        }
-        One::Floordiv(z) => {
-            return integer::floor_div(a, z);
-        }
-        One::Mod(z) => {
-            return integer::floor_mod(a, z);
-        }
+        One::Product(z) => z * a,
+        One::Floordiv(z) => integer::floor_div(a, z),
+        One::Mod(z) => integer::floor_mod(a, z),
     }
 }
 
@@ -53,26 +41,19 @@ fn step_value(ds: &[i64], ss: &[i64], node: Node, items: &mut [i64; 256], top: u
     match node {
         Node::Leaf(leaf) => {
             let at = top - 1;
-            let v = leaf_value(ds, ss, leaf);
-            items[at] = v;
-            return at;
+            items[at] = leaf_value(ds, ss, leaf);
+            at
         }
         Node::One(one) => {
-            let a = items[top];
-            let v = one_value(one, a);
-            items[top] = v;
-            return top;
+            items[top] = one_value(one, items[top]);
+            top
         }
         Node::Sum => {
-            let b = items[top];
             let at = top + 1;
-            let a = items[at];
-            items[at] = a + b;
-            return at;
+            items[at] += items[top];
+            at
         }
-        Node::Bad => {
-            return top;
-        }
+        Node::Bad => top,
     }
 }
 
@@ -90,12 +71,9 @@ pub fn value_of<'a>(
 {
     let mut items = [0i64; 256];
     let mut top: usize = nodes::MAX_NODES;
-    let mut i = from;
-    let end = from + count;
-    while i < end {
+    for i in from..from + count {
         let node = nodes::node_of(ds.len(), ss.len(), kinds[i], values[i]);
         top = step_value(ds, ss, node, &mut items, top);
-        i += 1;
     }
     items[top]
 }

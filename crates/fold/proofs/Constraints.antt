@@ -4,7 +4,6 @@ use mathlib.Core.Bool.{Bool, true, false, cond, ◌&&◌}
 use mathlib.Core.List.{List, [], ◌∷◌, ◌++◌, map, append-nil, append_assoc}
 use Prim.Native.Nat.{ℕ, zero, suc, ◌+◌, ◌-◌, ◌<◌, ◌≤◌}
 use native.Mathlib.Omega.{arith}
-use native.Mathlib.Numerals.{add-one}
 use lib.IntN.{ℤ, pos, +ℤ_idl}
 use lib.ListN.{length, get_or, drop, set, length-append, length-map}
 use lib.Signed.{le_z}
@@ -14,22 +13,18 @@ use Rattle.indexing.specs.Map.{max_constraints}
 use Rattle.indexing.specs.declared.IndexingMap.{IndexingMap}
 use Rattle.folding.specs.Sum.{sum_range}
 use Rattle.folding.specs.Fold.{fold_sum}
-use Rattle.folding.specs.Working.{small_sum}
+use Rattle.folding.specs.Working.{small_sum, small_working}
 use Rattle.folding.specs.Map.{Constraint, constraint_trees, fold_tree, fold_constraints, is_inside, small_trees}
 use Rattle.folding.proofs.Judged.{fold_small}
 use Rattle.words.specs.Promises.{Reckons}
-use Rattle.words.proofs.Tests.{clash}
-use Rattle.encoding.specs.Postfix.{postfix}
-use Rattle.encoding.specs.Written.{Room, Written, EmitsSum}
+use Rattle.encoding.specs.Written.{Room, EmitsSum}
 use Rattle.encoding.specs.Encode.{filled, nodes_of, Holds, ConstraintZeros}
 use Rattle.encoding.proofs.Lists.{map-append}
-use Rattle.encoding.proofs.Stored.{nothing}
 use Rattle.encoding.proofs.Filled.{filled_next}
 use Rattle.encoding.proofs.Held.{holds-next, count_next}
-use Rattle.encoding.specs.Trees.{listed, constraint_at, map_bounds}
-use Rattle.fold.specs.Ready.{FoldsRun, is_gone, Goes, FoldsConstraint, Stays, FoldsConstraints}
+use Rattle.encoding.specs.Trees.{listed, constraint_at, map_constraints, map_bounds}
+use Rattle.fold.specs.Ready.{FoldsRun, is_gone, Goes, ConstraintGoes, ConstraintStays, ConstraintsFolded}
 use Rattle.tree_sum.specs.declared.TreeSum.{TreeSum}
-use Rattle.fold.specs.declared.FoldedConstraint.{FoldedConstraint}
 use Rattle.fold.proofs.Results.{sum-stands, small-next, small-not}
 use Rattle.encoding.proofs.Listed.{listed-map}
 
@@ -57,39 +52,24 @@ goes m k w n ok gone lo hi r g =
 -- ---- one constraint
 
 module _ (m : IndexingMap) (k : ℕ) (w : List ℤ) (s : TreeSum) (f : FoldsRun m (m.results + k) w s) {ks : List ℕ} {vs : List ℤ} {at : ℕ} (room : Room ks vs at) where
-  pub constraint-over : s.small ≡ false → FoldsConstraint m k ks ks vs vs at (record { small = false; gone = false; at = at })
-  constraint-over e =
-      record {
-        kept = record { kinds = refl; values = refl; most = room.most };
-        judged = sym e ∙ f.judged;
-        goes = λ i. clash i;
-        written = λ i. clash i;
-      }
-
   module _ (e : s.small ≡ true) (gone : Bool) (g : Goes m k w s.terms gone) where
     gone-is : gone ≡ is_gone m k
     gone-is =
         g.is (fold_sum (map_bounds m) (constraint_at m k).expr) (drop s.end w) (f.counted e) (sum-stands m (m.results + k) w s f e)
         (fold_small (map_bounds m) (constraint_at m k).expr (sym f.judged ∙ e))
 
-    pub constraint-gone : gone ≡ true → FoldsConstraint m k ks ks vs vs at (record { small = true; gone = true; at = at })
-    constraint-gone i =
-        record {
-          kept = record { kinds = refl; values = refl; most = room.most };
-          judged = sym e ∙ f.judged;
-          goes = λ q. sym i ∙ gone-is;
-          written = λ q. nothing ks vs at room.most;
-        }
+    pub constraint-gone : gone ≡ true → ConstraintGoes m k ks ks vs vs
+    constraint-gone i = record { small = sym f.judged ∙ e; gone = sym gone-is ∙ i; kinds = refl; values = refl }
 
     pub constraint-stays : {ks' : List ℕ} {vs' : List ℤ} {r : ℕ} → gone ≡ false → EmitsSum w 0 s.terms ks ks' vs vs' at r
-        → FoldsConstraint m k ks ks' vs vs' at (record { small = true; gone = false; at = r })
+        → ConstraintStays m k ks ks' vs vs' at r
     unfolding fold_tree
     constraint-stays i w' =
         record {
+          small = sym f.judged ∙ e;
+          stays = sym gone-is ∙ i;
           kept = w'.kept;
-          judged = sym e ∙ f.judged;
-          goes = λ q. sym i ∙ gone-is;
-          written = λ q. w'.is (map_bounds m) (fold_sum (map_bounds m) (constraint_at m k).expr) (drop s.end w) (f.counted e) (sum-stands m (m.results + k) w s f e);
+          written = w'.is (map_bounds m) (fold_sum (map_bounds m) (constraint_at m k).expr) (drop s.end w) (f.counted e) (sum-stands m (m.results + k) w s f e);
         }
 
 -- ---- lists of constraints
@@ -163,135 +143,90 @@ module _ (m : IndexingMap) where
       }
 
   module _ {ks₀ : List ℕ} {vs₀ : List ℤ} {start k : ℕ} {counts : List ℕ} {lower upper : List ℤ} {ks : List ℕ} {vs : List ℤ} {at count : ℕ}
-      (f : Keeping ks₀ vs₀ start k counts lower upper ks vs at count) (more : k < m.constraints)
-      {ks' : List ℕ} {vs' : List ℤ} (r : FoldedConstraint) (w : FoldsConstraint m k ks ks' vs vs' at r) where
-    pub keeping-over : r.small ≡ false → FoldsConstraints m counts lower upper ks₀ ks' vs₀ vs' start (record { small = false; at = 0; count = 0 })
+      (f : Keeping ks₀ vs₀ start k counts lower upper ks vs at count) (more : k < m.constraints) where
+    pub keeping-over : small_working (map_bounds m) (constraint_at m k).expr ≡ false → small_trees (map_bounds m) (constraint_trees (map_constraints m)) ≡ false
     keeping-over e =
-        record {
-          judged = sym (ap (small_trees (map_bounds m)) (trees-listed m.constraints)
-              ∙ small-not (map_bounds m) (λ (k : ℕ). (constraint_at m k).expr) k m.constraints more (sym w.judged ∙ e));
-          count = λ i. clash i;
-          lows = λ i. clash i;
-          highs = λ i. clash i;
-          holds = λ es h i. clash i;
-          counted = λ es h i. clash i;
-        }
+        ap (small_trees (map_bounds m)) (trees-listed m.constraints)
+        ∙ small-not (map_bounds m) (λ (k : ℕ). (constraint_at m k).expr) k m.constraints more e
 
-    module _ (e : r.small ≡ true) where
-      next_small : small_trees (map_bounds m) (listed (λ (k : ℕ). (constraint_at m k).expr) (suc k)) ≡ true
-      next_small = small-next (map_bounds m) (λ (k : ℕ). (constraint_at m k).expr) k f.small (sym w.judged ∙ e)
+    small-more : small_working (map_bounds m) (constraint_at m k).expr ≡ true → small_trees (map_bounds m) (listed (λ (k : ℕ). (constraint_at m k).expr) (suc k)) ≡ true
+    small-more e = small-next (map_bounds m) (λ (k : ℕ). (constraint_at m k).expr) k f.small e
 
-      next-room : Room ks' vs' r.at
-      next-room =
-          record {
-            kinds = omega (arith, w.kept.kinds, f.room.kinds);
-            values = omega (arith, w.kept.values, f.room.values);
-            most = w.kept.most;
-          }
+    pub keeping_gone : {ks' : List ℕ} {vs' : List ℤ} → ConstraintGoes m k ks ks' vs vs' → Keeping ks₀ vs₀ start (suc k) counts lower upper ks' vs' at count
+    keeping_gone w =
+        let q = kept-gone k w.gone in
+        rw (w.kinds, w.values)
+        (record {
+          some = more;
+          small = small-more w.small;
+          room = f.room;
+          count-is = f.count-is ∙ ap (λ (l : List Constraint). length l) (sym q);
+          lows = f.lows ∙ ap (λ (l : List Constraint). filled max_constraints (pos 0) (map (λ (c : Constraint). c.interval.lo) l)) (sym q);
+          highs = f.highs ∙ ap (λ (l : List Constraint). filled max_constraints (pos 0) (map (λ (c : Constraint). c.interval.hi) l)) (sym q);
+          holds = λ es h. subst (λ (l : List Constraint). Holds (es ++ constraint_trees l) ks vs at) (sym q) (f.holds es h);
+          counted = λ es h l.
+              f.counted es h (subst (λ (x : List Constraint). length (nodes_of (es ++ constraint_trees x)) ≤ max_nodes) q l)
+              ∙ ap (λ (x : List Constraint). filled max_constraints 0 (map (λ (c : Constraint). node_count c.expr) x)) (sym q);
+        })
 
-      pub keeping_gone : r.gone ≡ true → Keeping ks₀ vs₀ start (suc k) counts lower upper ks' vs' at count
-      keeping_gone g =
-          let q = kept-gone k (sym (w.goes e) ∙ g) in
-          let W = subst (λ (b : Bool). Written (cond b [] (postfix (fold_tree (map_bounds m) (constraint_at m k).expr))) ks ks' vs vs' at r.at) g (w.written e) in
+    module _ {ks' : List ℕ} {vs' : List ℤ} {r : ℕ} (w : ConstraintStays m k ks ks' vs vs' at r) where
+      stays : kept (suc k) ≡ kept k ++ (folded_one (map_bounds m) (constraint_at m k) ∷ [])
+      stays = kept-stays k w.stays
+
+      trees-next : (es : List Expr) → es ++ constraint_trees (kept (suc k)) ≡ (es ++ constraint_trees (kept k)) ++ (fold_tree (map_bounds m) (constraint_at m k).expr ∷ [])
+      trees-next es =
+          ap (λ (l : List Constraint). es ++ constraint_trees l) stays
+          ∙ ap (λ (l : List Expr). es ++ l) (map-append (λ (c : Constraint). c.expr) (kept k) (folded_one (map_bounds m) (constraint_at m k) ∷ []))
+          ∙ sym (append_assoc es (constraint_trees (kept k)) (fold_tree (map_bounds m) (constraint_at m k).expr ∷ []))
+
+      -- one entry more of an array
+      entry : {A : Type 0} (h : Constraint → A) (z : A) (l : List A) → l ≡ filled max_constraints z (map h (kept k)) → (x : A) → x ≡ h (folded_one (map_bounds m) (constraint_at m k))
+          → set l count x ≡ filled max_constraints z (map h (kept (suc k)))
+      entry {A} h z l p x i =
+          ap₂ (λ (a : List A) (b : A). set a count b) p i
+          ∙ ap (λ (n : ℕ). set (filled max_constraints z (map h (kept k))) n (h (folded_one (map_bounds m) (constraint_at m k)))) (f.count-is ∙ sym (length-map (kept k) h))
+          ∙ sym (filled_next max_constraints z (map h (kept k)) (h (folded_one (map_bounds m) (constraint_at m k))))
+          ∙ ap (filled max_constraints z) (sym (ap (map h) stays ∙ map-append h (kept k) (folded_one (map_bounds m) (constraint_at m k) ∷ [])))
+
+      pub place-next : at ≤ r
+      place-next = omega (arith, w.written.nodes, f.room.most)
+
+      pub keeping-stays : Keeping ks₀ vs₀ start (suc k) (set counts count (r - at))
+          (set lower count (get_or m.constraint_lower k (pos 0))) (set upper count (get_or m.constraint_upper k (pos 0))) ks' vs' r (suc count)
+      keeping-stays =
           record {
             some = more;
-            small = next_small;
-            room = record { kinds = next-room.kinds; values = next-room.values; most = f.room.most };
-            count-is = f.count-is ∙ ap (λ (l : List Constraint). length l) (sym q);
-            lows = f.lows ∙ ap (λ (l : List Constraint). filled max_constraints (pos 0) (map (λ (c : Constraint). c.interval.lo) l)) (sym q);
-            highs = f.highs ∙ ap (λ (l : List Constraint). filled max_constraints (pos 0) (map (λ (c : Constraint). c.interval.hi) l)) (sym q);
-            holds = λ es h.
-                subst (λ (l : List Constraint). Holds (es ++ constraint_trees l) ks' vs' at) (sym q)
-                (subst (λ (x : List ℕ). Holds (es ++ constraint_trees (kept k)) x vs' at) (sym W.kinds)
-                (subst (λ (x : List ℤ). Holds (es ++ constraint_trees (kept k)) ks x at) (sym W.values) (f.holds es h)));
+            small = small-more w.small;
+            room =
+                record {
+                  kinds = omega (arith, w.kept.kinds, f.room.kinds);
+                  values = omega (arith, w.kept.values, f.room.values);
+                  most = w.kept.most;
+                };
+            count-is = omega (arith, f.count-is, ap (λ (l : List Constraint). length l) stays, length-append (kept k) (folded_one (map_bounds m) (constraint_at m k) ∷ []));
+            lows = entry (λ (c : Constraint). c.interval.lo) (pos 0) lower f.lows (get_or m.constraint_lower k (pos 0)) refl;
+            highs = entry (λ (c : Constraint). c.interval.hi) (pos 0) upper f.highs (get_or m.constraint_upper k (pos 0)) refl;
+            holds = λ es h. subst (λ (l : List Expr). Holds l ks' vs' r) (sym (trees-next es)) (holds-next (f.holds es h) (fold_tree (map_bounds m) (constraint_at m k).expr) w.written);
             counted = λ es h l.
-                f.counted es h (subst (λ (x : List Constraint). length (nodes_of (es ++ constraint_trees x)) ≤ max_nodes) q l)
-                ∙ ap (λ (x : List Constraint). filled max_constraints 0 (map (λ (c : Constraint). node_count c.expr) x)) (sym q);
+                let c = count_next (es ++ constraint_trees (kept k)) (fold_tree (map_bounds m) (constraint_at m k).expr) at r (f.holds es h) w.written
+                (subst (λ (x : List Expr). length (nodes_of x) ≤ max_nodes) (trees-next es) l) in
+                entry (λ (c : Constraint). node_count c.expr) 0 counts (f.counted es h c.0) (r - at) c.1;
           }
-
-      module _ (g : r.gone ≡ false) where
-        new : Constraint
-        new = folded_one (map_bounds m) (constraint_at m k)
-
-        stays : kept (suc k) ≡ kept k ++ (folded_one (map_bounds m) (constraint_at m k) ∷ [])
-        stays = kept-stays k (sym (w.goes e) ∙ g)
-
-        W : Written (postfix (fold_tree (map_bounds m) (constraint_at m k).expr)) ks ks' vs vs' at r.at
-        W = subst (λ (b : Bool). Written (cond b [] (postfix (fold_tree (map_bounds m) (constraint_at m k).expr))) ks ks' vs vs' at r.at) g (w.written e)
-
-        trees-next : (es : List Expr) → es ++ constraint_trees (kept (suc k)) ≡ (es ++ constraint_trees (kept k)) ++ (fold_tree (map_bounds m) (constraint_at m k).expr ∷ [])
-        trees-next es =
-            ap (λ (l : List Constraint). es ++ constraint_trees l) stays
-            ∙ ap (λ (l : List Expr). es ++ l) (map-append (λ (c : Constraint). c.expr) (kept k) (folded_one (map_bounds m) (constraint_at m k) ∷ []))
-            ∙ sym (append_assoc es (constraint_trees (kept k)) (fold_tree (map_bounds m) (constraint_at m k).expr ∷ []))
-
-        -- one entry more of an array
-        entry : {A : Type 0} (h : Constraint → A) (z : A) (l : List A) → l ≡ filled max_constraints z (map h (kept k)) → (x : A) → x ≡ h (folded_one (map_bounds m) (constraint_at m k))
-            → set l count x ≡ filled max_constraints z (map h (kept (suc k)))
-        entry {A} h z l p x i =
-            ap₂ (λ (a : List A) (b : A). set a count b) p i
-            ∙ ap (λ (n : ℕ). set (filled max_constraints z (map h (kept k))) n (h (folded_one (map_bounds m) (constraint_at m k)))) (f.count-is ∙ sym (length-map (kept k) h))
-            ∙ sym (filled_next max_constraints z (map h (kept k)) (h (folded_one (map_bounds m) (constraint_at m k))))
-            ∙ ap (filled max_constraints z) (sym (ap (map h) stays ∙ map-append h (kept k) (folded_one (map_bounds m) (constraint_at m k) ∷ [])))
-
-        pub place-next : at ≤ r.at
-        place-next = omega (arith, W.nodes, f.room.most)
-
-        pub keeping-stays : Keeping ks₀ vs₀ start (suc k) (set counts count (r.at - at))
-            (set lower count (get_or m.constraint_lower k (pos 0))) (set upper count (get_or m.constraint_upper k (pos 0))) ks' vs' r.at (suc count)
-        keeping-stays =
-            record {
-              some = more;
-              small = next_small;
-              room = next-room;
-              count-is = omega (arith, f.count-is, ap (λ (l : List Constraint). length l) stays, length-append (kept k) (folded_one (map_bounds m) (constraint_at m k) ∷ []));
-              lows = entry (λ (c : Constraint). c.interval.lo) (pos 0) lower f.lows (get_or m.constraint_lower k (pos 0)) refl;
-              highs = entry (λ (c : Constraint). c.interval.hi) (pos 0) upper f.highs (get_or m.constraint_upper k (pos 0)) refl;
-              holds = λ es h. subst (λ (l : List Expr). Holds l ks' vs' r.at) (sym (trees-next es)) (holds-next (f.holds es h) (fold_tree (map_bounds m) (constraint_at m k).expr) W);
-              counted = λ es h l.
-                  let c = count_next (es ++ constraint_trees (kept k)) (fold_tree (map_bounds m) (constraint_at m k).expr) at r.at (f.holds es h) W
-                  (subst (λ (x : List Expr). length (nodes_of x) ≤ max_nodes) (trees-next es) l) in
-                  entry (λ (c : Constraint). node_count c.expr) 0 counts (f.counted es h c.0) (r.at - at) c.1;
-            }
 
     pub count-below : count < m.constraints
     count-below = omega (arith, f.count-is, kept-few k)
 
-    module _ (e : r.small ≡ true) where
-      place_is : r.gone ≡ true → r.at ≡ at
-      place_is g =
-          let W = subst (λ (b : Bool). Written (cond b [] (postfix (fold_tree (map_bounds m) (constraint_at m k).expr))) ks ks' vs vs' at r.at) g (w.written e) in
-          omega (arith, W.nodes, f.room.most)
-
-      pub place_after : at ≤ r.at
-      place_after = go r.gone refl
-        where
-          go : (b : Bool) → r.gone ≡ b → at ≤ r.at
-          go true g = omega (arith, place_is g)
-          go false g = place-next e g
-
-      pub keeping-next : {counts' : List ℕ} {lower' upper' : List ℤ} {count' : ℕ}
-          → Stays r.gone counts counts' lower lower' upper upper' count (r.at - at) (get_or m.constraint_lower k (pos 0)) (get_or m.constraint_upper k (pos 0)) count'
-          → Keeping ks₀ vs₀ start (suc k) counts' lower' upper' ks' vs' r.at count'
-      keeping-next {counts'} {lower'} {upper'} {count'} z = go r.gone refl z
-        where
-          go : (b : Bool) → r.gone ≡ b
-              → Stays b counts counts' lower lower' upper upper' count (r.at - at) (get_or m.constraint_lower k (pos 0)) (get_or m.constraint_upper k (pos 0)) count'
-              → Keeping ks₀ vs₀ start (suc k) counts' lower' upper' ks' vs' r.at count'
-          go true g y = rw (y.counts-are, y.lower-are, y.upper-are, y.count-is, place_is g) (keeping_gone e g)
-          go false g y = rw (y.counts-are, y.lower-are, y.upper-are, y.count-is, add-one count) (keeping-stays e g)
-
   pub keeping-end : {ks₀ : List ℕ} {vs₀ : List ℤ} {start k : ℕ} {counts : List ℕ} {lower upper : List ℤ} {ks : List ℕ} {vs : List ℤ} {at count : ℕ}
       → Keeping ks₀ vs₀ start k counts lower upper ks vs at count → m.constraints ≤ k
-      → FoldsConstraints m counts lower upper ks₀ ks vs₀ vs start (record { small = true; at = at; count = count })
+      → ConstraintsFolded m counts lower upper ks₀ ks vs₀ vs start (record { at = at; count = count })
   keeping-end {ks₀} {vs₀} {start} {k} {counts} {lower} {upper} {ks} {vs} {at} {count} f h =
       let e : k ≡ m.constraints = omega (arith, f.some) in
       let F = subst (λ (n : ℕ). Keeping ks₀ vs₀ start n counts lower upper ks vs at count) e f in
       record {
-        judged = sym (ap (small_trees (map_bounds m)) (trees-listed m.constraints) ∙ F.small);
-        count = λ i. F.count-is;
-        lows = λ i. F.lows;
-        highs = λ i. F.highs;
-        holds = λ es g i. F.holds es g;
-        counted = λ es g i l. F.counted es g l;
+        small = ap (small_trees (map_bounds m)) (trees-listed m.constraints) ∙ F.small;
+        count = F.count-is;
+        lows = F.lows;
+        highs = F.highs;
+        holds = λ es g. F.holds es g;
+        counted = λ es g l. F.counted es g l;
       }

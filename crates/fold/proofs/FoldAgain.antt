@@ -5,7 +5,7 @@ use mathlib.Core.List.{List, [], ◌∷◌}
 use lib.Dec.{leb}
 use lib.ListN.{length}
 use Rattle.refusal.specs.Number.{answered, done}
-use Rattle.refusal.specs.declared.Verdict.{Verdict}
+use Rattle.refusal.specs.Judge.{Verdict}
 use Rattle.expression.specs.Expression.{Expr}
 use Rattle.expression.specs.Node.{max_nodes}
 use Rattle.expression.proofs.Within.{Proper}

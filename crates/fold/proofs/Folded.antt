@@ -1,4 +1,5 @@
 -- A map whose fold is accepted: its folded trees fit a record, which is accepted. Assumes nothing.
+use Rattle.std.specs.Prelude.{Ok}
 use mathlib.Core.Path.{◌≡◌, refl, sym, ap₂, ◌∙◌}
 use mathlib.Core.Bool.{Bool, true, false, cond, ◌&&◌}
 use mathlib.Core.List.{List, [], ◌∷◌, ◌++◌}
@@ -13,7 +14,6 @@ use Rattle.integer.specs.Exact.{limit}
 use Rattle.radix.proofs.Tests.{and-true, and_left, and_right, every-at}
 use Rattle.refusal.specs.Judge.{judge}
 use Rattle.refusal.specs.declared.Refusal.TheVariants.{Attribute, CountLimit, WorkingLimit}
-use Rattle.refusal.specs.declared.Verdict.TheVariants.{Done}
 use Rattle.refusal.proofs.Judged.{kept, rest}
 use Rattle.expression.specs.Expression.{Kind, d, s, rt, Expr, Range, small_ranges, every_node}
 use Rattle.expression.specs.Node.{max_variables, max_nodes, max_divisor}
@@ -42,7 +42,7 @@ pub record Folds (m : IndexingMap) : Type 0 where
   pub small : small_fold m ≡ true
   pub few : few_nodes m ≡ true
 
-pub folds-of : (m : IndexingMap) → judge (fold_rules m) ≡ Done → Folds m
+pub folds-of : (m : IndexingMap) → judge (fold_rules m) ≡ Ok tt → Folds m
 folds-of m e =
     let e1 = rest (good_parts m) Attribute _ e in
     let e2 = rest (good_counts m) CountLimit _ e1 in
@@ -58,7 +58,7 @@ folds-of m e =
       few = kept (few_nodes m) CountLimit _ e4;
     }
 
-pub folds-done : (m : IndexingMap) → Folds m → judge (fold_rules m) ≡ Done
+pub folds-done : (m : IndexingMap) → Folds m → judge (fold_rules m) ≡ Ok tt
 folds-done m w = rw (w.accepted.formed.parts, w.accepted.formed.counts, w.accepted.ranges, w.small, w.few)
 
 -- ---- lists of trees

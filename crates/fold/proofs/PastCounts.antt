@@ -7,7 +7,7 @@ use lib.Dec.{leb}
 use lib.ListN.{length}
 use Rattle.refusal.specs.Number.{answered}
 use Rattle.refusal.specs.Judge.{judge}
-use Rattle.refusal.specs.declared.Verdict.{Verdict}
+use Rattle.refusal.specs.Judge.{Verdict}
 use Rattle.expression.specs.Expression.{Expr}
 use Rattle.expression.specs.Node.{max_nodes}
 use Rattle.expression.proofs.Within.{Proper}

@@ -1,4 +1,5 @@
 -- At a point the folded map has the domain and the values of the map. Assumes nothing.
+use Rattle.std.specs.Prelude.{Ok}
 use mathlib.Core.Path.{◌≡◌, refl, sym, ap, ap₂, ◌∙◌, subst}
 use mathlib.Core.Logic.{◌↔◌}
 use mathlib.Core.Bool.{Bool, true, false, ◌&&◌}
@@ -12,8 +13,7 @@ use lib.ListN.{length, get_or, replicate}
 use lib.Seq.{get_or-drop}
 use Rattle.radix.proofs.Tests.{and_left, and_right}
 use Rattle.refusal.specs.Number.{answered}
-use Rattle.refusal.specs.declared.Verdict.{Verdict}
-use Rattle.refusal.specs.declared.Verdict.TheVariants.{Done}
+use Rattle.refusal.specs.Judge.{Verdict}
 use Rattle.expression.specs.Expression.{Kind, d, s, Expr, span, In, eval}
 use Rattle.expression.specs.Node.{max_variables}
 use Rattle.expression.specs.Value.{point_of, bounds}
@@ -207,6 +207,6 @@ module _ (m : IndexingMap) (w : Folds m) where
         verdicts = ap₂ point_verdict (ap₂ (λ (x y : ℕ). eqb (length ds) x && eqb (length ss) y) dims-are ranges-are) in-domain-same
 
         go : (long inside : Bool) → in_domain m ds ss ≡ inside → answered zeros (point_verdict long inside) (values (folded_map m)) ≡ answered zeros (point_verdict long inside) (values m)
-        go true true e = ap (λ (l : List ℤ). answered zeros Done l) (values-are (domain-inside m ds ss ((domain-is m ds ss).0 e)))
+        go true true e = ap (λ (l : List ℤ). answered zeros (Ok tt) l) (values-are (domain-inside m ds ss ((domain-is m ds ss).0 e)))
         go true false e = refl
         go false inside e = refl

@@ -17,16 +17,14 @@ use Rattle.folding.specs.Fold.{fold_sum}
 use Rattle.folding.specs.Working.{small_working}
 use Rattle.folding.specs.Map.{fold_tree, fold_results, small_trees}
 use Rattle.words.specs.Words.{sum_words}
-use Rattle.words.proofs.Tests.{clash}
 use Rattle.encoding.specs.Written.{Room, EmitsSum}
 use Rattle.encoding.specs.Encode.{filled, nodes_of, Holds, Zeros}
 use Rattle.encoding.proofs.Lists.{map-append}
 use Rattle.encoding.proofs.Filled.{filled_next}
 use Rattle.encoding.proofs.Held.{holds-none, holds-next, count_next}
-use Rattle.encoding.specs.Trees.{listed, expr_at, map_bounds}
-use Rattle.fold.specs.Ready.{FoldsRun, WritesRun, FoldsResults}
+use Rattle.encoding.specs.Trees.{listed, expr_at, result_trees, map_bounds}
+use Rattle.fold.specs.Ready.{FoldsRun, RunWritten}
 use Rattle.tree_sum.specs.declared.TreeSum.{TreeSum}
-use Rattle.fold.specs.declared.Progress.{Progress}
 use Rattle.rules.proofs.Standing.{sum-rest, front-stands}
 use Rattle.encoding.proofs.Listed.{listed-length}
 
@@ -39,22 +37,14 @@ sum-stands m i w s f e =
     front-stands w s.end (sum_words (map_bounds m) t []) (f.standing e) ∙ sym (sum-rest (map_bounds m) t (drop s.end w))
 
 module _ (m : IndexingMap) (i : ℕ) (w : List ℤ) (s : TreeSum) (f : FoldsRun m i w s) {ks : List ℕ} {vs : List ℤ} {at : ℕ} (room : Room ks vs at) where
-  pub writes-over : s.small ≡ false → WritesRun m i ks ks vs vs at (record { small = false; at = at })
-  writes-over e =
-      record {
-        kept = record { kinds = refl; values = refl; most = room.most };
-        judged = sym e ∙ f.judged;
-        written = λ k. clash k;
-      }
-
   pub writes-run : {ks' : List ℕ} {vs' : List ℤ} {r : ℕ} → s.small ≡ true → EmitsSum w 0 s.terms ks ks' vs vs' at r
-      → WritesRun m i ks ks' vs vs' at (record { small = true; at = r })
+      → RunWritten m i ks ks' vs vs' at r
   unfolding fold_tree
   writes-run e w' =
       record {
+        small = sym f.judged ∙ e;
         kept = w'.kept;
-        judged = sym e ∙ f.judged;
-        written = λ k. w'.is (map_bounds m) (fold_sum (map_bounds m) (expr_at m i)) (drop s.end w) (f.counted e) (sum-stands m i w s f e);
+        written = w'.is (map_bounds m) (fold_sum (map_bounds m) (expr_at m i)) (drop s.end w) (f.counted e) (sum-stands m i w s f e);
       }
 
 -- ---- lists of trees
@@ -119,40 +109,25 @@ module _ (m : IndexingMap) where
   unfolding listed
   first_next i = map-append (λ (e : Expr). fold_tree (map_bounds m) e) (listed (expr_at m) i) (expr_at m i ∷ [])
 
-  module _ {i : ℕ} {counts ks : List ℕ} {vs : List ℤ} {at : ℕ} (f : Folding i counts ks vs at) (more : i < m.results)
-      {ks' : List ℕ} {vs' : List ℤ} (r : Progress) (w : WritesRun m i ks ks' vs vs' at r) where
-    pub folding-over : r.small ≡ false → (n : ℕ) → FoldsResults m counts ks' vs' (record { small = false; at = n })
-    folding-over e n =
-        record {
-          judged = sym (small-not (map_bounds m) (expr_at m) i m.results more (sym w.judged ∙ e));
-          holds = λ k. clash k;
-          counted = λ k. clash k;
-        }
+  module _ {i : ℕ} {counts ks : List ℕ} {vs : List ℤ} {at : ℕ} (f : Folding i counts ks vs at) (more : i < m.results) where
+    pub folding-over : small_working (map_bounds m) (expr_at m i) ≡ false → small_trees (map_bounds m) (result_trees m) ≡ false
+    folding-over e = small-not (map_bounds m) (expr_at m) i m.results more e
 
-    module _ (e : r.small ≡ true) where
-      pub place-next : at ≤ r.at
-      place-next = omega (arith, (w.written e).nodes, f.holds.nodes)
+    module _ {ks' : List ℕ} {vs' : List ℤ} {r : ℕ} (w : RunWritten m i ks ks' vs vs' at r) where
+      pub place-next : at ≤ r
+      place-next = omega (arith, w.written.nodes, f.holds.nodes)
 
-      pub folding-next : Folding (suc i) (set counts i (r.at - at)) ks' vs' r.at
+      pub folding-next : Folding (suc i) (set counts i (r - at)) ks' vs' r
       folding-next =
           record {
             some = more;
-            small = small-next (map_bounds m) (expr_at m) i f.small (sym w.judged ∙ e);
-            holds = subst (λ (es : List Expr). Holds es ks' vs' r.at) (sym (first_next i)) (holds-next f.holds (fold_tree (map_bounds m) (expr_at m i)) (w.written e));
+            small = small-next (map_bounds m) (expr_at m) i f.small w.small;
+            holds = subst (λ (es : List Expr). Holds es ks' vs' r) (sym (first_next i)) (holds-next f.holds (fold_tree (map_bounds m) (expr_at m i)) w.written);
             counted = λ h.
-                let c = count_next (first i) (fold_tree (map_bounds m) (expr_at m i)) at r.at f.holds (w.written e) (subst (λ (es : List Expr). length (nodes_of es) ≤ max_nodes) (first_next i) h) in
+                let c = count_next (first i) (fold_tree (map_bounds m) (expr_at m i)) at r f.holds w.written (subst (λ (es : List Expr). length (nodes_of es) ≤ max_nodes) (first_next i) h) in
                 let l : length (map node_count (first i)) ≡ i = length-map (first i) node_count ∙ length-map (listed (expr_at m) i) (λ (x : Expr). fold_tree (map_bounds m) x) ∙ listed-length (expr_at m) i in
                 ap₂ (λ (x : List ℕ) (n : ℕ). set x i n) (f.counted c.0) c.1
                 ∙ ap (λ (n : ℕ). set (filled max_results 0 (map node_count (first i))) n (node_count (fold_tree (map_bounds m) (expr_at m i)))) (sym l)
                 ∙ sym (filled_next max_results 0 (map node_count (first i)) (node_count (fold_tree (map_bounds m) (expr_at m i))))
                 ∙ ap (λ (x : List ℕ). filled max_results 0 x) (sym (ap (map node_count) (first_next i) ∙ map-append node_count (first i) (fold_tree (map_bounds m) (expr_at m i) ∷ [])));
           }
-
-  pub folding-end : {i : ℕ} {counts ks : List ℕ} {vs : List ℤ} {at : ℕ} → Folding i counts ks vs at → m.results ≤ i → FoldsResults m counts ks vs (record { small = true; at = at })
-  folding-end {i} {counts} {ks} {vs} {at} f h =
-      let e : i ≡ m.results = omega (arith, f.some) in
-      record {
-        judged = sym (subst (λ (n : ℕ). small_trees (map_bounds m) (listed (expr_at m) n) ≡ true) e f.small);
-        holds = λ k. subst (λ (n : ℕ). Holds (first n) ks vs at) e f.holds;
-        counted = λ k. subst (λ (n : ℕ). length (nodes_of (first n)) ≤ max_nodes → counts ≡ filled max_results 0 (map node_count (first n))) e f.counted;
-      }

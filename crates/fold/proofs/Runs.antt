@@ -9,8 +9,7 @@ use Rattle.expression.specs.Node.{max_nodes}
 use Rattle.indexing.specs.Map.{max_results, max_constraints, start_of, runs, count_of}
 use Rattle.indexing.specs.Ready.{run_of, Formed}
 use Rattle.indexing.specs.declared.IndexingMap.{IndexingMap}
-use Rattle.indexing.specs.declared.Run.TheVariants.{Held}
-use Rattle.indexing.proofs.Formed.{counts, run-here, tree-here, held-is}
+use Rattle.indexing.proofs.Formed.{stands, counts, run-here, tree-here, held-is}
 use Rattle.indexing.proofs.Starts.{start-suc, start-le}
 use Rattle.tree_sum.proofs.Walked.{run-folds}
 use Rattle.tree_sum.specs.Trees.{FoldsTree}
@@ -19,7 +18,7 @@ use Rattle.fold.specs.Ready.{map_nodes, Space, FoldsRun}
 use Rattle.encoding.proofs.Trees.{runs-all, tree_is}
 use Rattle.tree_sum.specs.declared.TreeSum.{TreeSum}
 
-module _ (m : IndexingMap) (f : Formed m) (i : ℕ) (h : i < runs m) (a b : ℕ) (q : Held a b ≡ run_of m i)
+module _ (m : IndexingMap) (f : Formed m) (i : ℕ) (h : i < runs m) (a b : ℕ) (q : stands a b ≡ run_of m i)
     (lk : length m.kinds ≡ max_nodes) (lv : length m.values ≡ max_nodes) where
   pub run_end : a + b ≤ max_nodes
   run_end = omega (arith, (run-here m i a b q lk lv).in-kinds, lk)
@@ -60,7 +59,7 @@ module _ (m : IndexingMap) (f : Formed m) (some : m.results + m.constraints ≡ 
   pub last-run : m.results + m.constraints - 1 < runs m
   last-run = let s = some in omega (arith, runs-all m f)
 
-  pub last_end : (a b : ℕ) → Held a b ≡ run_of m (m.results + m.constraints - 1) → a + b ≡ map_nodes m
+  pub last_end : (a b : ℕ) → stands a b ≡ run_of m (m.results + m.constraints - 1) → a + b ≡ map_nodes m
   last_end a b q =
       let e = (held-is m (m.results + m.constraints - 1) a b q).1 in
       let n : suc (m.results + m.constraints - 1) ≡ runs m = let s = some in omega (arith, runs-all m f) in

@@ -1,4 +1,5 @@
 -- What folding a map does, one theorem under each sentence. Assumes nothing.
+use Rattle.std.specs.Prelude.{Ok, Err}
 use mathlib.Core.Path.{◌≡◌, refl}
 use mathlib.Core.Logic.{◌↔◌}
 use mathlib.Core.Bool.{Bool, true, false, cond}
@@ -8,7 +9,6 @@ use lib.IntN.{ℤ}
 use Rattle.refusal.specs.Number.{done, refusal}
 use Rattle.refusal.specs.Judge.{judge}
 use Rattle.refusal.specs.declared.Refusal.{Refusal}
-use Rattle.refusal.specs.declared.Verdict.TheVariants.{Done, Refused}
 use Rattle.expression.specs.Node.{max_variables}
 use Rattle.indexing.specs.Map.{value_at, in_bounds, Domain, SameAt, Alike, good_parts, good_counts, good_ranges}
 use Rattle.indexing.specs.Answers.{map_rules, result_values, no_map}
@@ -42,12 +42,12 @@ fold-number m = go (good_parts m) (good_counts m) (good_ranges m) (small_fold m)
     go false b c e f p q r s t = rw p
 
 -- A fold that is refused answers the refusal of the first rule that is broken, and a map of zeros.
-pub refused-zeros : (m : IndexingMap) (r : Refusal) → judge (fold_rules m) ≡ Refused r → fold_answer m ≡ refusal (no_map ∷ []) r
+pub refused-zeros : (m : IndexingMap) (r : Refusal) → judge (fold_rules m) ≡ Err r → fold_answer m ≡ refusal (no_map ∷ []) r
 unfolding fold_answer
 refused-zeros m r e = map-refused (folded_map m) (fold_rules m) r e
 
 -- The number is 0 exactly where every rule is kept.
-pub done-is : (m : IndexingMap) → ((fold_answer m).number ≡ 0) ↔ (judge (fold_rules m) ≡ Done)
+pub done-is : (m : IndexingMap) → ((fold_answer m).number ≡ 0) ↔ (judge (fold_rules m) ≡ Ok tt)
 unfolding fold_answer
 done-is m = map-number-zero (folded_map m) (fold_rules m)
 
@@ -57,7 +57,7 @@ past-counts m n a = answer-unread m n a
 
 -- ---- a map whose fold is not refused
 
-module _ (m : IndexingMap) (h : judge (fold_rules m) ≡ Done) where
+module _ (m : IndexingMap) (h : judge (fold_rules m) ≡ Ok tt) where
   folds : Folds m
   folds = folds-of m h
 
@@ -92,7 +92,7 @@ module _ (m : IndexingMap) (h : judge (fold_rules m) ≡ Done) where
   same-answers ds ss = answer-same m folds ds ss
 
   -- It is accepted.
-  pub accepted : judge (map_rules (folded_map m)) ≡ Done
+  pub accepted : judge (map_rules (folded_map m)) ≡ Ok tt
   accepted = let a = folded-accepted m folds in rw (a.formed.parts, a.formed.counts, a.ranges)
 
   -- Folding it again is not refused and changes nothing.

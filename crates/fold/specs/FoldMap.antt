@@ -1,14 +1,14 @@
 -- Folding a map: the folded map, the rules in the order of their numbers, and the answer. Assumes nothing.
-use Rattle.std.specs.Prelude.{Bool, List, [], ◌∷◌, leb, length}
+use Rattle.std.specs.Prelude.{Bool, List, [], ◌∷◌, leb, length, Result}
 use Rattle.refusal.specs.Number.{Answer}
 use Rattle.refusal.specs.Judge.{Rule, rule, judge}
+use Rattle.refusal.specs.declared.Refusal.{Refusal}
 use Rattle.refusal.specs.declared.Refusal.TheVariants.{Attribute, CountLimit, WorkingLimit}
 use Rattle.expression.specs.Expression.{Expr}
 use Rattle.expression.specs.Node.{max_nodes}
 use Rattle.indexing.specs.Map.{good_parts, good_counts, good_ranges}
 use Rattle.indexing.specs.Answers.{answered_map, map_by}
 use Rattle.indexing.specs.declared.IndexingMap.{IndexingMap}
-use Rattle.indexing.specs.declared.AnsweredMap.{AnsweredMap}
 use Rattle.folding.specs.Map.{Constraint, fold_results, fold_constraints, small_trees}
 use Rattle.encoding.specs.Encode.{trees_of, nodes_of, encode_map}
 use Rattle.encoding.specs.Trees.{result_trees, map_constraints, map_bounds}
@@ -50,7 +50,7 @@ fold_rules m =
 abbrev pub work_rules : IndexingMap → List Rule
 work_rules m = rule (small_fold m) WorkingLimit ∷ rule (few_nodes m) CountLimit ∷ []
 
-unfoldable pub accepted_fold : IndexingMap → AnsweredMap
+unfoldable pub accepted_fold : IndexingMap → Result IndexingMap Refusal
 accepted_fold m = answered_map (judge (work_rules m)) (folded_map m)
 
 unfoldable pub fold_answer : IndexingMap → Answer IndexingMap

@@ -1,5 +1,5 @@
 -- What the parts of folding a map promise: a run folded, and results and constraints one after another. Assumes nothing.
-use Rattle.std.specs.Prelude.{◌≡◌, Bool, true, cond, List, [], ◌++◌, map, ℕ, ◌+◌, ◌*◌, ◌≤◌, ℤ, pos, length, take, drop, set}
+use Rattle.std.specs.Prelude.{◌≡◌, Bool, true, false, Option, Some, None, List, [], ◌++◌, map, ℕ, ◌+◌, ◌*◌, ◌≤◌, ℤ, pos, length, take, drop}
 use Rattle.expression.specs.Expression.{Expr, node_count}
 use Rattle.expression.specs.Node.{max_nodes}
 use Rattle.indexing.specs.Map.{max_results, max_constraints, start_of, runs, count_of}
@@ -16,9 +16,9 @@ use Rattle.rules.specs.Outcome.{max_terms}
 use Rattle.encoding.specs.Trees.{expr_at, constraint_at, result_trees, map_constraints, map_bounds}
 use Rattle.fold.specs.FoldMap.{folded_results, folded_constraints}
 use Rattle.tree_sum.specs.declared.TreeSum.{TreeSum}
-use Rattle.fold.specs.declared.Progress.{Progress}
 use Rattle.fold.specs.declared.Remaining.{Remaining}
 use Rattle.fold.specs.declared.FoldedConstraint.{FoldedConstraint}
+use Rattle.fold.specs.declared.FoldedConstraint.TheVariants.{Passed, Gone, Stays}
 
 -- the nodes of a map, all its trees together
 abbrev pub map_nodes : IndexingMap → ℕ
@@ -48,19 +48,29 @@ pub record FoldsRun (m : IndexingMap) (i : ℕ) (words : List ℤ) (s : TreeSum)
   pub standing : s.small ≡ true → take s.end words ≡ sum_words (map_bounds m) (fold_sum (map_bounds m) (expr_at m i)) []
   pub counted : s.small ≡ true → s.terms ≡ term_count (fold_sum (map_bounds m) (expr_at m i))
 
--- run i folded, and its nodes written
-pub record WritesRun (m : IndexingMap) (i : ℕ) (ks ks' : List ℕ) (vs vs' : List ℤ) (at : ℕ) (r : Progress) : Type 0 where
-  pub kept : Kept ks ks' vs vs' r.at
-  pub judged : r.small ≡ small_working (map_bounds m) (expr_at m i)
-  pub written : r.small ≡ true → Written (postfix (fold_tree (map_bounds m) (expr_at m i))) ks ks' vs vs' at r.at
+-- run i folded, and its nodes written up to a place
+pub record RunWritten (m : IndexingMap) (i : ℕ) (ks ks' : List ℕ) (vs vs' : List ℤ) (at r : ℕ) : Type 0 where
+  pub small : small_working (map_bounds m) (expr_at m i) ≡ true
+  pub kept : Kept ks ks' vs vs' r
+  pub written : Written (postfix (fold_tree (map_bounds m) (expr_at m i))) ks ks' vs vs' at r
+
+-- or a sum formed passes a limit
+abbrev pub WritesRun : IndexingMap → ℕ → List ℕ → List ℕ → List ℤ → List ℤ → ℕ → Option ℕ → Type 0
+WritesRun m i ks ks' vs vs' at None = small_working (map_bounds m) (expr_at m i) ≡ false
+WritesRun m i ks ks' vs vs' at (Some r) = RunWritten m i ks ks' vs vs' at r
 
 -- ---- the results
 
--- every result folded: their nodes one after another, and the numbers of their nodes
-pub record FoldsResults (m : IndexingMap) (counts ks : List ℕ) (vs : List ℤ) (r : Progress) : Type 0 where
-  pub judged : r.small ≡ small_trees (map_bounds m) (result_trees m)
-  pub holds : r.small ≡ true → Holds (folded_results m) ks vs r.at
-  pub counted : r.small ≡ true → length (nodes_of (folded_results m)) ≤ max_nodes → counts ≡ filled max_results 0 (map node_count (folded_results m))
+-- every result folded: their nodes one after another up to a place, and the numbers of their nodes
+pub record ResultsFolded (m : IndexingMap) (counts ks : List ℕ) (vs : List ℤ) (at : ℕ) : Type 0 where
+  pub small : small_trees (map_bounds m) (result_trees m) ≡ true
+  pub holds : Holds (folded_results m) ks vs at
+  pub counted : length (nodes_of (folded_results m)) ≤ max_nodes → counts ≡ filled max_results 0 (map node_count (folded_results m))
+
+-- or a sum formed passes a limit
+abbrev pub FoldsResults : IndexingMap → List ℕ → List ℕ → List ℤ → Option ℕ → Type 0
+FoldsResults m counts ks vs None = small_trees (map_bounds m) (result_trees m) ≡ false
+FoldsResults m counts ks vs (Some at) = ResultsFolded m counts ks vs at
 
 -- ---- the constraints
 
@@ -72,26 +82,37 @@ pub record Goes (m : IndexingMap) (k : ℕ) (words : List ℤ) (terms : ℕ) (go
   pub is : (t : Sum) (x : List ℤ) → terms ≡ term_count t → drop 0 words ≡ sum_words (map_bounds m) t x → small_sum (map_bounds m) t ≡ true
       → gone ≡ is_inside (sum_range t (map_bounds m)) (constraint_at m k).interval
 
--- constraint k folded: it goes, or its nodes are written
-pub record FoldsConstraint (m : IndexingMap) (k : ℕ) (ks ks' : List ℕ) (vs vs' : List ℤ) (at : ℕ) (r : FoldedConstraint) : Type 0 where
-  pub kept : Kept ks ks' vs vs' r.at
-  pub judged : r.small ≡ small_working (map_bounds m) (constraint_at m k).expr
-  pub goes : r.small ≡ true → r.gone ≡ is_gone m k
-  pub written : r.small ≡ true → Written (cond r.gone [] (postfix (fold_tree (map_bounds m) (constraint_at m k).expr))) ks ks' vs vs' at r.at
+-- constraint k folded, which goes: nothing is written
+pub record ConstraintGoes (m : IndexingMap) (k : ℕ) (ks ks' : List ℕ) (vs vs' : List ℤ) : Type 0 where
+  pub small : small_working (map_bounds m) (constraint_at m k).expr ≡ true
+  pub gone : is_gone m k ≡ true
+  pub kinds : ks' ≡ ks
+  pub values : vs' ≡ vs
 
--- one entry more in each array where the constraint stays
-pub record Stays (gone : Bool) (counts counts' : List ℕ) (lower lower' upper upper' : List ℤ) (count nodes : ℕ) (lo hi : ℤ) (r : ℕ) : Type 0 where
-  pub counts-are : counts' ≡ cond gone counts (set counts count nodes)
-  pub lower-are : lower' ≡ cond gone lower (set lower count lo)
-  pub upper-are : upper' ≡ cond gone upper (set upper count hi)
-  pub count-is : r ≡ cond gone count (count + 1)
+-- constraint k folded, which stays: its nodes are written up to a place
+pub record ConstraintStays (m : IndexingMap) (k : ℕ) (ks ks' : List ℕ) (vs vs' : List ℤ) (at r : ℕ) : Type 0 where
+  pub small : small_working (map_bounds m) (constraint_at m k).expr ≡ true
+  pub stays : is_gone m k ≡ false
+  pub kept : Kept ks ks' vs vs' r
+  pub written : Written (postfix (fold_tree (map_bounds m) (constraint_at m k).expr)) ks ks' vs vs' at r
+
+-- or a sum formed passes a limit
+abbrev pub FoldsConstraint : IndexingMap → ℕ → List ℕ → List ℕ → List ℤ → List ℤ → ℕ → FoldedConstraint → Type 0
+FoldsConstraint m k ks ks' vs vs' at Passed = small_working (map_bounds m) (constraint_at m k).expr ≡ false
+FoldsConstraint m k ks ks' vs vs' at Gone = ConstraintGoes m k ks ks' vs vs'
+FoldsConstraint m k ks ks' vs vs' at (Stays r) = ConstraintStays m k ks ks' vs vs' at r
 
 -- every constraint folded: those that stay, with their nodes one after another, the numbers of their nodes and their ends
-pub record FoldsConstraints (m : IndexingMap) (counts : List ℕ) (lower upper : List ℤ) (ks ks' : List ℕ) (vs vs' : List ℤ) (start : ℕ) (r : Remaining) : Type 0 where
-  pub judged : r.small ≡ small_trees (map_bounds m) (constraint_trees (map_constraints m))
-  pub count : r.small ≡ true → r.count ≡ length (folded_constraints m)
-  pub lows : r.small ≡ true → lower ≡ filled max_constraints (pos 0) (map (λ (c : Constraint). c.interval.lo) (folded_constraints m))
-  pub highs : r.small ≡ true → upper ≡ filled max_constraints (pos 0) (map (λ (c : Constraint). c.interval.hi) (folded_constraints m))
-  pub holds : (es : List Expr) → Holds es ks vs start → r.small ≡ true → Holds (es ++ constraint_trees (folded_constraints m)) ks' vs' r.at
-  pub counted : (es : List Expr) → Holds es ks vs start → r.small ≡ true → length (nodes_of (es ++ constraint_trees (folded_constraints m))) ≤ max_nodes
+pub record ConstraintsFolded (m : IndexingMap) (counts : List ℕ) (lower upper : List ℤ) (ks ks' : List ℕ) (vs vs' : List ℤ) (start : ℕ) (r : Remaining) : Type 0 where
+  pub small : small_trees (map_bounds m) (constraint_trees (map_constraints m)) ≡ true
+  pub count : r.count ≡ length (folded_constraints m)
+  pub lows : lower ≡ filled max_constraints (pos 0) (map (λ (c : Constraint). c.interval.lo) (folded_constraints m))
+  pub highs : upper ≡ filled max_constraints (pos 0) (map (λ (c : Constraint). c.interval.hi) (folded_constraints m))
+  pub holds : (es : List Expr) → Holds es ks vs start → Holds (es ++ constraint_trees (folded_constraints m)) ks' vs' r.at
+  pub counted : (es : List Expr) → Holds es ks vs start → length (nodes_of (es ++ constraint_trees (folded_constraints m))) ≤ max_nodes
       → counts ≡ filled max_constraints 0 (map (λ (c : Constraint). node_count c.expr) (folded_constraints m))
+
+-- or a sum formed passes a limit
+abbrev pub FoldsConstraints : IndexingMap → List ℕ → List ℤ → List ℤ → List ℕ → List ℕ → List ℤ → List ℤ → ℕ → Option Remaining → Type 0
+FoldsConstraints m counts lower upper ks ks' vs vs' start None = small_trees (map_bounds m) (constraint_trees (map_constraints m)) ≡ false
+FoldsConstraints m counts lower upper ks ks' vs vs' start (Some r) = ConstraintsFolded m counts lower upper ks ks' vs vs' start r

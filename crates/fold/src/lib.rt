@@ -6,25 +6,17 @@ mod whole;
 
 pub use whole::fold_map;
 
-// How far the trees are folded and their nodes written: whether every sum formed keeps the limits, and the place past the last node.
-#[derive(Clone, Copy)]
-pub struct Progress {
-    pub small: bool,
-    pub at: usize,
-}
-
-// The same of constraints: also how many stay.
+// What stays of the constraints: the place past their nodes, and how many they are.
 #[derive(Clone, Copy)]
 pub struct Remaining {
-    pub small: bool,
     pub at: usize,
     pub count: usize,
 }
 
-// A constraint folded: whether every sum formed keeps the limits, whether it goes, and the place past its nodes.
+// A constraint folded: a sum formed passes a limit; it goes; or it stays, and its nodes end before a place.
 #[derive(Clone, Copy)]
-pub struct FoldedConstraint {
-    pub small: bool,
-    pub gone: bool,
-    pub at: usize,
+pub enum FoldedConstraint {
+    Passed,
+    Gone,
+    Stays(usize),
 }

@@ -7,8 +7,8 @@ ghost use Rattle.fold.specs.FoldMap.{accepted_fold, fold_answer};
 ghost use Rattle.fold.specs.Ready.{Space, map_nodes, few_at_most};
 
 use super::parts;
-use indexing::{AnsweredMap, IndexingMap, Run};
-use refusal::{Refusal, Verdict};
+use indexing::IndexingMap;
+use refusal::Refusal;
 
 // The most nodes of a map that is folded in the smaller work space.
 const FEW: usize = 64;
@@ -27,30 +27,28 @@ fn folded_record(
     requires { Accepted m }
     ensures { result ≡ record_of m.dims m.ranges m.lower m.upper m.results counts count nodes lower upper kinds values }
 {
-    let first = m.lower;
-    let last = m.upper;
     encoding::record_of(
-        m.dims, m.ranges, first, last, m.results, counts, count, nodes, lower, upper, kinds, values,
+        m.dims, m.ranges, m.lower, m.upper, m.results, counts, count, nodes, lower, upper, kinds,
+        values,
     )
 }
 
 // An accepted map folded, with room for the words of its sums: refused with 8 or 7.
-fn fold_in(m: IndexingMap, words: &mut [i64], scratch: &mut [i64]) -> AnsweredMap
+fn fold_in(m: IndexingMap, words: &mut [i64], scratch: &mut [i64]) -> Result<IndexingMap, Refusal>
     requires { Accepted m × Space m words.old scratch.old }
     ensures { result ≡ accepted_fold m }
 {
     let mut counts = [0usize; 8];
     let mut kinds = [0u8; 256];
     let mut values = [0i64; 256];
-    let p = parts::fold_results(m, words, scratch, &mut counts, &mut kinds, &mut values);
-    let small = p.small;
-    if !small {
-        return indexing::inner::refused_map(Refusal::WorkingLimit);
-    }
+    let Some(at) = parts::fold_results(m, words, scratch, &mut counts, &mut kinds, &mut values)
+    else {
+        return Err(Refusal::WorkingLimit);
+    };
     let mut nodes = [0usize; 32];
     let mut lower = [0i64; 32];
     let mut upper = [0i64; 32];
-    let q = parts::fold_constraints(
+    let Some(left) = parts::fold_constraints(
         m,
         words,
         scratch,
@@ -59,20 +57,15 @@ fn fold_in(m: IndexingMap, words: &mut [i64], scratch: &mut [i64]) -> AnsweredMa
         &mut upper,
         &mut kinds,
         &mut values,
-        p.at,
-    );
-    let all = q.small;
-    if !all {
-        return indexing::inner::refused_map(Refusal::WorkingLimit);
+        at,
+    ) else {
+        return Err(Refusal::WorkingLimit);
+    };
+    if expression::MAX_NODES < left.at {
+        return Err(Refusal::CountLimit);
     }
-    if expression::MAX_NODES < q.at {
-        return indexing::inner::refused_map(Refusal::CountLimit);
-    }
-    let map = folded_record(m, counts, q.count, nodes, lower, upper, kinds, values);
-    AnsweredMap {
-        verdict: Verdict::Done,
-        map,
-    }
+    let map = folded_record(m, counts, left.count, nodes, lower, upper, kinds, values);
+    Ok(map)
 }
 
 // The nodes of a map, all its trees together.
@@ -85,17 +78,13 @@ fn node_total(m: IndexingMap) -> usize
         return 0;
     }
     match indexing::inner::run_of(m, n - 1) {
-        Run::Held(from, count) => {
-            return from + count;
-        }
-        Run::Cut => {
-            return 0;
-        }
+        Some((from, count)) => from + count,
+        None => 0,
     }
 }
 
 // An accepted map of few nodes folded.
-fn fold_few(m: IndexingMap) -> AnsweredMap
+fn fold_few(m: IndexingMap) -> Result<IndexingMap, Refusal>
     requires { Accepted m × (map_nodes m ≤ few_at_most) }
     ensures { result ≡ accepted_fold m }
 {
@@ -105,7 +94,7 @@ fn fold_few(m: IndexingMap) -> AnsweredMap
 }
 
 // An accepted map of any number of nodes folded.
-fn fold_many(m: IndexingMap) -> AnsweredMap
+fn fold_many(m: IndexingMap) -> Result<IndexingMap, Refusal>
     requires { Accepted m }
     ensures { result ≡ accepted_fold m }
 {
@@ -115,7 +104,7 @@ fn fold_many(m: IndexingMap) -> AnsweredMap
 }
 
 // An accepted map folded, in work space by its number of nodes: clearing the larger one takes longer than folding a small map.
-fn fold_accepted(m: IndexingMap) -> AnsweredMap
+fn fold_accepted(m: IndexingMap) -> Result<IndexingMap, Refusal>
     requires { Accepted m }
     ensures { result ≡ accepted_fold m }
 {
@@ -126,15 +115,9 @@ fn fold_accepted(m: IndexingMap) -> AnsweredMap
 }
 
 // A map folded: refused with 2, 7 or 8 of the map given, 8 of the working or 7 of the result.
-pub fn fold_map(m: IndexingMap) -> AnsweredMap
+pub fn fold_map(m: IndexingMap) -> Result<IndexingMap, Refusal>
     ensures { map_answer result ≡ fold_answer m }
 {
-    match indexing::inner::judged(m) {
-        Verdict::Done => {
-            return fold_accepted(m);
-        }
-        Verdict::Refused(r) => {
-            return indexing::inner::refused_map(r);
-        }
-    }
+    indexing::inner::judged(m)?;
+    fold_accepted(m)
 }

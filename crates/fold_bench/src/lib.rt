@@ -2,7 +2,6 @@
 #![tactic(auto)]
 
 use indexing::IndexingMap;
-use refusal::Verdict;
 
 // The lengths of a map's rows: its counts (of variables, results and constraints, then of the nodes of each), its numbers
 // (bounds, ends, then the values of nodes) and the kinds of its nodes.
@@ -29,11 +28,7 @@ fn copy_numbers(source: &[i64], from: usize, target: &mut [i64], at: usize, coun
     if target.len() - count < at {
         return;
     }
-    let mut k: usize = 0;
-    while k < count {
-        target[at + k] = source[from + k];
-        k += 1;
-    }
+    target[at..at + count].copy_from_slice(&source[from..from + count]);
 }
 
 // The same for counts.
@@ -50,11 +45,7 @@ fn copy_counts(source: &[usize], from: usize, target: &mut [usize], at: usize, c
     if target.len() - count < at {
         return;
     }
-    let mut k: usize = 0;
-    while k < count {
-        target[at + k] = source[from + k];
-        k += 1;
-    }
+    target[at..at + count].copy_from_slice(&source[from..from + count]);
 }
 
 // The same for kinds.
@@ -71,11 +62,7 @@ fn copy_kinds(source: &[u8], from: usize, target: &mut [u8], at: usize, count: u
     if target.len() - count < at {
         return;
     }
-    let mut k: usize = 0;
-    while k < count {
-        target[at + k] = source[from + k];
-        k += 1;
-    }
+    target[at..at + count].copy_from_slice(&source[from..from + count]);
 }
 
 // The map that three rows hold.
@@ -131,20 +118,30 @@ fn write_numbers(m: IndexingMap, numbers: &mut [i64]) {
     copy_numbers(&m.values, 0, numbers, 112, 256);
 }
 
-// The number of a verdict, 0 for done.
-fn number_of(verdict: Verdict) -> u64 {
-    match verdict {
-        Verdict::Done => 0,
-        Verdict::Refused(r) => refusal::number(r),
-    }
-}
-
 // Whether a row of each kind is long enough.
 fn long_enough(counts: usize, numbers: usize, kinds: usize) -> bool {
     COUNTS <= counts && NUMBERS <= numbers && KINDS <= kinds
 }
 
-// Folds the map of three rows, writes the answer's map as such rows and hands back the verdict's number.
+// A map of zeros.
+fn no_map() -> IndexingMap {
+    IndexingMap {
+        dims: 0,
+        ranges: 0,
+        lower: [0; 24],
+        upper: [0; 24],
+        results: 0,
+        result_nodes: [0; 8],
+        constraints: 0,
+        constraint_nodes: [0; 32],
+        constraint_lower: [0; 32],
+        constraint_upper: [0; 32],
+        kinds: [0; 256],
+        values: [0; 256],
+    }
+}
+
+// Folds the map of three rows, writes the folded map as such rows, zeros where it is refused, and hands back the number, 0 for done.
 #[unsafe(no_mangle)]
 pub extern "C" fn fold_rows(
     counts: &[usize],
@@ -160,13 +157,14 @@ pub extern "C" fn fold_rows(
     if !long_enough(counts_out.len(), numbers_out.len(), kinds_out.len()) {
         return SHORT;
     }
-    let answer = fold::fold_map(read_map(counts, numbers, kinds));
-    let verdict = answer.verdict;
-    let m = answer.map;
+    let (m, number) = match fold::fold_map(read_map(counts, numbers, kinds)) {
+        Ok(map) => (map, 0),
+        Err(r) => (no_map(), refusal::number(r)),
+    };
     write_counts(m, counts_out);
     write_numbers(m, numbers_out);
     copy_kinds(&m.kinds, 0, kinds_out, 0, KINDS);
-    number_of(verdict)
+    number
 }
 
 // The same rows without folding: what reading and writing them costs.

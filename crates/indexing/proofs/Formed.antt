@@ -1,4 +1,5 @@
 -- What a map has to which numbers 2, 7 and 8 do not apply: its counts, its runs as trees, its bounds within the limit. Assumes nothing.
+use Rattle.std.specs.Prelude.{Option, Some, None, Ok}
 use mathlib.Core.Path.{◌≡◌, refl, ap, ◌∙◌}
 use mathlib.Core.Bool.{Bool, true, false, cond}
 use mathlib.Core.List.{List, [], ◌∷◌}
@@ -6,6 +7,7 @@ use Prim.Native.Nat.{ℕ, suc, ◌+◌, ◌<◌, ◌≤◌, min}
 use native.Mathlib.Omega.{arith}
 use borrow.Author.Tests.{leb-true, le-leb}
 use lib.Dec.{leb}
+use Rattle.std.proofs.lemmas.Option.{some_pair_parts}
 use lib.IntN.{ℤ, pos, nat_abs}
 use lib.ListN.{length, get_or}
 use lib.Seq.{get_or-drop}
@@ -21,10 +23,8 @@ use Rattle.expression.proofs.Within.{LeIn, Inside, accepted}
 use Rattle.indexing.specs.Map.{max_results, max_constraints, max_bound, good_ends_at, good_intervals, start_of, runs, count_of, tree_at, is_held, good_tree, good_trees, good_bounds, good_ends, good_parts, good_counts, kept_at, good_ranges, value_at, in_at, are_in, in_bounds}
 use Rattle.indexing.specs.Ready.{run_of, Formed, Accepted, Bounded}
 use Rattle.indexing.specs.declared.IndexingMap.{IndexingMap}
-use Rattle.indexing.specs.declared.Run.TheVariants.{Held, Cut}
 use Rattle.refusal.specs.Judge.{judge}
 use Rattle.refusal.specs.declared.Refusal.TheVariants.{Attribute, CountLimit, WorkingLimit}
-use Rattle.refusal.specs.declared.Verdict.TheVariants.{Done}
 use Rattle.refusal.proofs.Judged.{kept, rest}
 use Rattle.indexing.specs.Answers.{map_rules}
 use Rattle.indexing.proofs.Comparisons.{le-fact}
@@ -124,15 +124,20 @@ run_in m i k v e =
     let n = start-suc (count_of m) i in
     record { in-kinds = omega arith; in-values = omega arith; few = omega arith }
 
--- where a run stands, by what the code answers
-held_by : (h : Bool) (a b x y : ℕ) → Held a b ≡ cond h (Held x y) Cut → (h ≡ true) × ((a ≡ x) × (b ≡ y))
-held_by true a b x y e = (refl, (cc, cc))
+-- ---- where a run stands, by what the code answers
+
+-- at a, with b nodes
+abbrev pub stands : ℕ → ℕ → Option (ℕ × ℕ)
+stands a b = Some (a, b)
+
+held_by : (h : Bool) (a b x y : ℕ) → stands a b ≡ cond h (stands x y) None → (h ≡ true) × ((a ≡ x) × (b ≡ y))
+held_by true a b x y e = let p = some_pair_parts a x b y e in (refl, (p.0, p.1))
 held_by false a b x y e = let z : ◌≡◌ {A = ℕ} 0 1 = cc in absurd (omega arith)
 
-pub held-is : (m : IndexingMap) (i a b : ℕ) → Held a b ≡ run_of m i → (is_held m i ≡ true) × ((a ≡ start_of (count_of m) i) × (b ≡ count_of m i))
+pub held-is : (m : IndexingMap) (i a b : ℕ) → stands a b ≡ run_of m i → (is_held m i ≡ true) × ((a ≡ start_of (count_of m) i) × (b ≡ count_of m i))
 held-is m i a b e = held_by (is_held m i) a b (start_of (count_of m) i) (count_of m i) e
 
-module _ (m : IndexingMap) (i a b : ℕ) (e : Held a b ≡ run_of m i) where
+module _ (m : IndexingMap) (i a b : ℕ) (e : stands a b ≡ run_of m i) where
   pub held-here : is_held m i ≡ true
   held-here = (held-is m i a b e).0
 
@@ -147,15 +152,15 @@ module _ (m : IndexingMap) (i a b : ℕ) (e : Held a b ≡ run_of m i) where
   unfolding tree_at
   tree-here = ap decode (nodes-here m.dims m.ranges)
 
-cut_by : (h : Bool) (x y : ℕ) → Cut ≡ cond h (Held x y) Cut → h ≡ false
+cut_by : (h : Bool) (x y : ℕ) → None ≡ cond h (stands x y) None → h ≡ false
 cut_by true x y e = let z : ◌≡◌ {A = ℕ} 0 1 = cc in absurd (omega arith)
 cut_by false x y e = refl
 
-pub cut-is : (m : IndexingMap) (i : ℕ) → Cut ≡ run_of m i → is_held m i ≡ false
+pub cut-is : (m : IndexingMap) (i : ℕ) → None ≡ run_of m i → is_held m i ≡ false
 cut-is m i e = cut_by (is_held m i) (start_of (count_of m) i) (count_of m i) e
 
 -- in a map that is formed none is cut off
-pub never-cut : (m : IndexingMap) (i : ℕ) → Formed m → i < runs m → Cut ≡ run_of m i → ⊥
+pub never-cut : (m : IndexingMap) (i : ℕ) → Formed m → i < runs m → None ≡ run_of m i → ⊥
 never-cut m i f h e =
     let p = cut-is m i e in
     let q = held_at m f i h in
@@ -218,12 +223,12 @@ module _ (m : IndexingMap) (ds ss : List ℤ) (p : Bounded m ds ss) where
       go (tree e) q =
           accepted (bounds m.lower m.upper) ds ss m.kinds m.values (start_of (count_of m) i) (count_of m i) e inside (ap decode nodes ∙ q) (small_at m w i h e q)
 
-  pub value-here : (i a b : ℕ) → i < runs m → Held a b ≡ run_of m i
+  pub value-here : (i a b : ℕ) → i < runs m → stands a b ≡ run_of m i
       → walk (value_alg ds ss) (nodes_at (length ds) (length ss) m.kinds m.values a b) [] ≡ stack (value_at m ds ss i ∷ [])
   value-here i a b h e = rw (nodes-here m i a b e (length ds) (length ss)) (value-is i h)
 
 -- ---- what a verdict says
-pub accepted-of : (m : IndexingMap) → judge (map_rules m) ≡ Done → Accepted m
+pub accepted-of : (m : IndexingMap) → judge (map_rules m) ≡ Ok tt → Accepted m
 accepted-of m e =
     let a = kept (good_parts m) Attribute _ e in
     let f = rest (good_parts m) Attribute _ e in

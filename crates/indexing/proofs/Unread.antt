@@ -11,6 +11,7 @@ use lib.ListN.{length, get_or}
 use lib.Seq.{get_or-drop}
 use Rattle.integer.specs.Exact.{limit}
 use Rattle.radix.specs.Radix.{every}
+use Rattle.radix.proofs.Tests.{every-agree}
 use Rattle.expression.specs.Node.{max_variables, max_nodes, node_of, nodes_at}
 use Rattle.expression.specs.declared.Node.{Node}
 use Rattle.expression.specs.Decode.{Tree, none, tree, decode, is_tree}
@@ -25,10 +26,6 @@ use Rattle.indexing.proofs.Formed.{Counts, counts-of, held_at}
 use Rattle.indexing.specs.Map.{value_at, in_at, are_in, in_bounds, holds_at, all_hold, in_domain, SameAt, Alike, range_at, kept_at, good_ranges, max_results, max_bound, good_intervals, start_of, held_constraints, runs, count_of, tree_at, is_held, good_tree, good_bounds, good_ends, good_trees, good_parts, good_counts}
 use Rattle.indexing.specs.declared.IndexingMap.{IndexingMap}
 use Rattle.indexing.proofs.Starts.{start-suc, start-le}
-
-every-same : (f g : ℕ → Bool) (n : ℕ) → ((k : ℕ) → k < n → f k ≡ g k) → every f n ≡ every g n
-every-same f g zero h = refl
-every-same f g (suc n) h = ap₂ (λ (a b : Bool). a && b) (every-same f g n (λ k l. h k (omega arith))) (h n (omega arith))
 
 start-same : (f g : ℕ → ℕ) (i : ℕ) → ((k : ℕ) → k < i → f k ≡ g k) → start_of f i ≡ start_of g i
 unfolding start_of
@@ -55,7 +52,7 @@ ends_same : (most : ℕ) (los his los' his' : List ℤ) (i n : ℕ)
     → good_intervals most los his i n ≡ good_intervals most los' his' i n
 unfolding good_intervals
 ends_same most los his los' his' i n h =
-    every-same _ _ n (λ k l. let a = h k l in rw (a.0, a.1))
+    every-agree _ _ n (λ k l. let a = h k l in rw (a.0, a.1))
 
 -- from place 0 on
 first : (los his los' his' : List ℤ) (k : ℕ) → SameAt los his los' his' k → SameAt los his los' his' (0 + k)
@@ -108,7 +105,7 @@ module _ (m n : IndexingMap) (a : Alike m n) where
 
   trees-same : good_trees m ≡ good_trees n
   unfolding good_trees
-  trees-same = let p = every-same (good_tree m) (good_tree n) (runs m) good-same in p ∙ ap (every (good_tree n)) runs_same
+  trees-same = let p = every-agree (good_tree m) (good_tree n) (runs m) good-same in p ∙ ap (every (good_tree n)) runs_same
 
   -- number 2 is the same
   pub parts_same : good_parts m ≡ good_parts n
@@ -173,7 +170,7 @@ module _ (m n : IndexingMap) (a : Alike m n) where
     -- number 8 is the same
     pub ranges-same : good_ranges m ≡ good_ranges n
     unfolding good_ranges
-    ranges-same = every-same (kept_at m) (kept_at n) (runs m) (λ i h. ap is_kept (range-at-same i h)) ∙ ap (every (kept_at n)) runs_same
+    ranges-same = every-agree (kept_at m) (kept_at n) (runs m) (λ i h. ap is_kept (range-at-same i h)) ∙ ap (every (kept_at n)) runs_same
 
   -- What a map holds past its counts alters no verdict.
   pub judged-same : judge (map_rules m) ≡ judge (map_rules n)
@@ -197,14 +194,14 @@ module _ (m n : IndexingMap) (a : Alike m n) where
     unfolding in_bounds are_in
     in-same =
         let w = all in
-        let p = every-same (in_at ds m.lower m.upper 0) (in_at ds n.lower n.upper 0) m.dims (λ k l. let q = first m.lower m.upper n.lower n.upper k (a.dimension k (omega arith)) in rw (q.0, q.1)) in
-        let r = every-same (in_at ss m.lower m.upper max_variables) (in_at ss n.lower n.upper max_variables) m.ranges (λ k l. let q = a.range k (omega arith) in rw (q.0, q.1)) in
+        let p = every-agree (in_at ds m.lower m.upper 0) (in_at ds n.lower n.upper 0) m.dims (λ k l. let q = first m.lower m.upper n.lower n.upper k (a.dimension k (omega arith)) in rw (q.0, q.1)) in
+        let r = every-agree (in_at ss m.lower m.upper max_variables) (in_at ss n.lower n.upper max_variables) m.ranges (λ k l. let q = a.range k (omega arith) in rw (q.0, q.1)) in
         rw (p, r, a.dims, a.ranges)
 
     holds_same : all_hold m ds ss ≡ all_hold n ds ss
     unfolding all_hold
     holds_same =
-        every-same (holds_at m ds ss) (holds_at n ds ss) m.constraints each ∙ ap (every (holds_at n ds ss)) a.constraints
+        every-agree (holds_at m ds ss) (holds_at n ds ss) m.constraints each ∙ ap (every (holds_at n ds ss)) a.constraints
       where
         each : (k : ℕ) → k < m.constraints → holds_at m ds ss k ≡ holds_at n ds ss k
         each k l =

@@ -1,16 +1,14 @@
 -- What the calls on indexing maps answer: the rules in the order of their numbers, and the values. Assumes nothing.
-use Rattle.std.specs.Prelude.{List, [], ◌∷◌, ◌++◌, ℕ, zero, suc, ◌+◌, ℤ, pos, replicate}
-use Rattle.refusal.specs.Number.{Answer, answered, verdict_answer}
+use Rattle.std.specs.Prelude.{List, [], ◌∷◌, ◌++◌, ℕ, zero, suc, ◌+◌, ℤ, pos, replicate, Ok, Err, Result}
+use Rattle.refusal.specs.Number.{Answer, done, refusal, answered, verdict_answer}
 use Rattle.refusal.specs.Judge.{Rule, rule, judge}
 use Rattle.refusal.specs.declared.Refusal.{Refusal}
 use Rattle.refusal.specs.declared.Refusal.TheVariants.{Attribute, Outside, WrongLength, CountLimit, WorkingLimit}
-use Rattle.refusal.specs.declared.Verdict.{Verdict}
-use Rattle.refusal.specs.declared.Verdict.TheVariants.{Done, Refused}
+use Rattle.refusal.specs.Judge.{Verdict}
 use Rattle.expression.specs.Node.{max_places, max_nodes}
 use Rattle.expression.specs.Reckon.{low_end, high_end}
 use Rattle.indexing.specs.Map.{max_results, max_constraints, good_parts, good_counts, good_ranges, range_at, value_at, right_length, in_domain}
 use Rattle.indexing.specs.declared.IndexingMap.{IndexingMap}
-use Rattle.indexing.specs.declared.AnsweredMap.{AnsweredMap}
 use Rattle.indexing.specs.declared.ResultRanges.{ResultRanges}
 use Rattle.indexing.specs.declared.ResultValues.{ResultValues}
 
@@ -40,27 +38,16 @@ lows_of m i = front (λ (k : ℕ). low_end (range_at m k)) i max_results
 abbrev pub highs_of : IndexingMap → ℕ → List ℤ
 highs_of m i = front (λ (k : ℕ). high_end (range_at m k)) i max_results
 
-abbrev pub ranges_answer : ResultRanges → Answer ℤ
-ranges_answer r =
-    record {
-      number = (verdict_answer r.verdict).number;
-      values = pos r.results ∷ (r.lower ++ r.upper);
-      places = (verdict_answer r.verdict).places;
-    }
+abbrev pub zero_ranges : List ℤ
+zero_ranges = replicate (1 + (max_results + max_results)) (pos 0)
 
-abbrev pub unranged_of : Refusal → ResultRanges
-unranged_of r =
-    record {
-      verdict = Refused r;
-      results = 0;
-      lower = replicate max_results (pos 0);
-      upper = replicate max_results (pos 0);
-    }
+abbrev pub ranges_answer : Result ResultRanges Refusal → Answer ℤ
+ranges_answer (Ok r) = done (pos r.results ∷ (r.lower ++ r.upper))
+ranges_answer (Err r) = refusal zero_ranges r
 
 abbrev pub ranged_of : IndexingMap → ResultRanges
 ranged_of m =
     record {
-      verdict = Done;
       results = m.results;
       lower = lows_of m m.results;
       upper = highs_of m m.results;
@@ -68,7 +55,7 @@ ranged_of m =
 
 unfoldable pub result_ranges : IndexingMap → Answer ℤ
 result_ranges m =
-    answered (replicate (1 + (max_results + max_results)) (pos 0)) (judge (map_rules m))
+    answered zero_ranges (judge (map_rules m))
     (pos m.results ∷ (lows_of m m.results ++ highs_of m m.results))
 
 -- ---- the values of the results at a point: their number and eight values, 0 past the number
@@ -76,19 +63,15 @@ result_ranges m =
 abbrev pub values_of : IndexingMap → List ℤ → List ℤ → ℕ → List ℤ
 values_of m ds ss i = front (value_at m ds ss) i max_results
 
-abbrev pub values_answer : ResultValues → Answer ℤ
-values_answer r =
-    record {
-      number = (verdict_answer r.verdict).number;
-      values = pos r.results ∷ r.values;
-      places = (verdict_answer r.verdict).places;
-    }
+abbrev pub zero_values : List ℤ
+zero_values = replicate (1 + max_results) (pos 0)
 
-abbrev pub unvalued_of : Refusal → ResultValues
-unvalued_of r = record { verdict = Refused r; results = 0; values = replicate max_results (pos 0) }
+abbrev pub values_answer : Result ResultValues Refusal → Answer ℤ
+values_answer (Ok r) = done (pos r.results ∷ r.values)
+values_answer (Err r) = refusal zero_values r
 
 abbrev pub valued_of : IndexingMap → List ℤ → List ℤ → ResultValues
-valued_of m ds ss = record { verdict = Done; results = m.results; values = values_of m ds ss m.results }
+valued_of m ds ss = record { results = m.results; values = values_of m ds ss m.results }
 
 abbrev pub point_rules : IndexingMap → List ℤ → List ℤ → List Rule
 point_rules m ds ss =
@@ -101,10 +84,10 @@ point_rules m ds ss =
 
 unfoldable pub result_values : IndexingMap → List ℤ → List ℤ → Answer ℤ
 result_values m ds ss =
-    answered (replicate (1 + max_results) (pos 0)) (judge (point_rules m ds ss))
+    answered zero_values (judge (point_rules m ds ss))
     (pos m.results ∷ values_of m ds ss m.results)
 
--- ---- a call that makes a map answers it, or a map of zeros
+-- ---- a call that makes a map answers it; on paper a map of zeros where it is refused
 
 abbrev pub no_map : IndexingMap
 no_map =
@@ -123,18 +106,14 @@ no_map =
       values = replicate max_nodes (pos 0);
     }
 
-abbrev pub map_answer : AnsweredMap → Answer IndexingMap
-map_answer r =
-    record {
-      number = (verdict_answer r.verdict).number;
-      values = r.map ∷ [];
-      places = (verdict_answer r.verdict).places;
-    }
+abbrev pub map_answer : Result IndexingMap Refusal → Answer IndexingMap
+map_answer (Ok m) = done (m ∷ [])
+map_answer (Err r) = refusal (no_map ∷ []) r
 
--- the record that stands for a verdict and a map
-abbrev pub answered_map : Verdict → IndexingMap → AnsweredMap
-answered_map Done m = record { verdict = Done; map = m }
-answered_map (Refused r) m = record { verdict = Refused r; map = no_map }
+-- the answer that a verdict and a map make
+abbrev pub answered_map : Verdict → IndexingMap → Result IndexingMap Refusal
+answered_map (Ok _) m = Ok m
+answered_map (Err r) m = Err r
 
 -- what a call answers that makes a map by rules: the map where they are kept
 abbrev pub map_by : List Rule → IndexingMap → Answer IndexingMap

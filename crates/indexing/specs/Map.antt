@@ -1,5 +1,5 @@
 -- Indexing maps: what a record holds, the rules of its parts, its domain, and the ranges and values of its results. Assumes nothing.
-use Rattle.std.specs.Prelude.{◌≡◌, Bool, true, cond, ◌&&◌, List, ℕ, zero, suc, ◌+◌, ◌-◌, ◌^◌, ◌<◌, min, leb, ltb, eqb, ℤ, pos, nat_abs, length, get_or}
+use Rattle.std.specs.Prelude.{◌≡◌, Bool, true, cond, ◌&&◌, List, ℕ, zero, suc, ◌+◌, ◌-◌, ◌^◌, ◌<◌, min, leb, ltb, eqb, ℤ, pos, nat_abs, length, get_or, Option}
 use Rattle.std.specs.Int.Signed.{le_z}
 use Rattle.integer.specs.Exact.{limit}
 use Rattle.radix.specs.Radix.{every}
@@ -9,7 +9,6 @@ use Rattle.expression.specs.Decode.{Tree, decode, is_tree}
 use Rattle.expression.specs.Value.{tree_value}
 use Rattle.expression.specs.Reckon.{range_in, is_kept}
 use Rattle.expression.specs.declared.Node.{Node}
-use Rattle.expression.specs.declared.Reckoned.{Reckoned}
 use Rattle.indexing.specs.declared.IndexingMap.{IndexingMap}
 
 -- the most results and constraints, and the largest magnitude of a variable's bound
@@ -102,7 +101,7 @@ good_counts m =
     && leb (start_of (count_of m) (runs m)) max_nodes)))
 
 -- the reckoned range of run i
-abbrev pub range_at : IndexingMap → ℕ → Reckoned
+abbrev pub range_at : IndexingMap → ℕ → Option (ℤ × ℤ)
 range_at m i = range_in m.lower m.upper (tree_at m i)
 
 abbrev pub kept_at : IndexingMap → ℕ → Bool

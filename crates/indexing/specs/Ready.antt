@@ -1,9 +1,7 @@
 -- What the inner functions require of a map and a point, and where a run stands. Assumes nothing.
-use Rattle.std.specs.Prelude.{◌≡◌, true, cond, List, ℕ, ◌+◌, ◌≤◌, ℤ, length}
+use Rattle.std.specs.Prelude.{◌≡◌, true, cond, List, ℕ, ◌+◌, ◌≤◌, ℤ, length, Option, Some, None}
 use Rattle.indexing.specs.Map.{start_of, count_of, is_held, good_parts, good_counts, good_ranges, in_bounds}
 use Rattle.indexing.specs.declared.IndexingMap.{IndexingMap}
-use Rattle.indexing.specs.declared.Run.{Run}
-use Rattle.indexing.specs.declared.Run.TheVariants.{Held, Cut}
 
 -- run i, of n results and of constraints, has its number of nodes
 pub record Counted (results constraints : List ℕ) (n i : ℕ) : Type 0 where
@@ -11,8 +9,8 @@ pub record Counted (results constraints : List ℕ) (n i : ℕ) : Type 0 where
   pub below : i ≤ n + length constraints
 
 -- where run i stands and how many nodes it has, or that it is cut off
-abbrev pub run_of : IndexingMap → ℕ → Run
-run_of m i = cond (is_held m i) (Held (start_of (count_of m) i) (count_of m i)) Cut
+abbrev pub run_of : IndexingMap → ℕ → Option (ℕ × ℕ)
+run_of m i = cond (is_held m i) (Some (start_of (count_of m) i, count_of m i)) None
 
 -- numbers 2 and 7 do not apply
 pub record Formed (m : IndexingMap) : Type 0 where

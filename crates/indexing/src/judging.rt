@@ -2,14 +2,12 @@
 ghost use Rattle.std.specs.Prelude.{◌≡◌, ◌+◌, ◌<◌, ◌≤◌, length};
 ghost use Rattle.refusal.specs.Number.{verdict_answer};
 ghost use Rattle.refusal.specs.Judge.{judge};
-ghost use Rattle.expression.specs.Reckon.{low_end, high_end};
 ghost use Rattle.indexing.specs.Map.{good_interval, good_intervals, runs, good_bounds, good_ends, good_trees, good_parts, good_counts, good_ranges, range_at};
 ghost use Rattle.indexing.specs.Ready.{Formed, Accepted};
-ghost use Rattle.indexing.specs.Answers.{map_rules, judged_map, ranges_answer, unranged_of, ranged_of, result_ranges};
+ghost use Rattle.indexing.specs.Answers.{map_rules, judged_map, ranges_answer, ranged_of, result_ranges};
 
-use super::{IndexingMap, ResultRanges, Run, runs};
-use expression::Reckoned;
-use refusal::{Refusal, Verdict};
+use super::{IndexingMap, ResultRanges, runs};
+use refusal::Refusal;
 
 // The largest magnitude of a variable's bound.
 const MAX_BOUND: u64 = 1 << 40;
@@ -18,13 +16,7 @@ const MAX_BOUND: u64 = 1 << 40;
 fn good_interval(a: i64, b: i64, most: u64) -> bool
     ensures { result ≡ good_interval most a b }
 {
-    if b < a {
-        return false;
-    }
-    if most < integer::magnitude(a) {
-        return false;
-    }
-    integer::magnitude(b) <= most
+    a <= b && integer::magnitude(a) <= most && integer::magnitude(b) <= most
 }
 
 // Whether the count intervals from a place on are right.
@@ -32,13 +24,10 @@ fn good_intervals<'a>(los: &'a [i64], his: &'a [i64], from: usize, count: usize,
     requires { (from + count ≤ length los.now) × (from + count ≤ length his.now) }
     ensures { result ≡ good_intervals most los.now his.now from count }
 {
-    let mut k: usize = 0;
-    while k < count {
-        let i = from + k;
-        if !good_interval(los[i], his[i], most) {
+    for k in 0..count {
+        if !good_interval(los[from + k], his[from + k], most) {
             return false;
         }
-        k += 1;
     }
     true
 }
@@ -47,26 +36,23 @@ fn good_intervals<'a>(los: &'a [i64], his: &'a [i64], from: usize, count: usize,
 fn good_bounds(m: IndexingMap) -> bool
     ensures { result ≡ good_bounds m }
 {
-    let dims = runs::held(m.dims, expression::MAX_VARIABLES);
-    let ranges = runs::held(m.ranges, expression::MAX_VARIABLES);
-    if good_intervals(&m.lower, &m.upper, 0, dims, MAX_BOUND) {
-        good_intervals(
+    let dims = m.dims.min(expression::MAX_VARIABLES);
+    let ranges = m.ranges.min(expression::MAX_VARIABLES);
+    good_intervals(&m.lower, &m.upper, 0, dims, MAX_BOUND)
+        && good_intervals(
             &m.lower,
             &m.upper,
             expression::MAX_VARIABLES,
             ranges,
             MAX_BOUND,
         )
-    } else {
-        false
-    }
 }
 
 // Whether the ends of the constraints that the record holds are right.
 fn good_ends(m: IndexingMap) -> bool
     ensures { result ≡ good_ends m }
 {
-    let count = runs::held(m.constraints, super::MAX_CONSTRAINTS);
+    let count = m.constraints.min(super::MAX_CONSTRAINTS);
     good_intervals(
         &m.constraint_lower,
         &m.constraint_upper,
@@ -80,22 +66,17 @@ fn good_ends(m: IndexingMap) -> bool
 fn runs_held(m: IndexingMap) -> usize
     ensures { result ≡ runs m }
 {
-    let results = runs::held(m.results, super::MAX_RESULTS);
-    let constraints = runs::held(m.constraints, super::MAX_CONSTRAINTS);
-    results + constraints
+    m.results.min(super::MAX_RESULTS) + m.constraints.min(super::MAX_CONSTRAINTS)
 }
 
 // Whether every run that is not cut off is one tree.
 fn good_trees(m: IndexingMap) -> bool
     ensures { result ≡ good_trees m }
 {
-    let n = runs_held(m);
-    let mut i: usize = 0;
-    while i < n {
+    for i in 0..runs_held(m) {
         if !runs::good_tree(m, i) {
             return false;
         }
-        i += 1;
     }
     true
 }
@@ -104,54 +85,38 @@ fn good_trees(m: IndexingMap) -> bool
 pub fn good_parts(m: IndexingMap) -> bool
     ensures { result ≡ good_parts m }
 {
-    if !good_bounds(m) {
-        return false;
-    }
-    if !good_ends(m) {
-        return false;
-    }
-    good_trees(m)
+    good_bounds(m) && good_ends(m) && good_trees(m)
 }
 
 // Number 7 does not apply.
 pub fn good_counts(m: IndexingMap) -> bool
     ensures { result ≡ good_counts m }
 {
-    if expression::MAX_VARIABLES < m.dims {
+    if expression::MAX_VARIABLES < m.dims
+        || expression::MAX_VARIABLES < m.ranges
+        || super::MAX_RESULTS < m.results
+        || super::MAX_CONSTRAINTS < m.constraints
+    {
         return false;
     }
-    if expression::MAX_VARIABLES < m.ranges {
-        return false;
-    }
-    if super::MAX_RESULTS < m.results {
-        return false;
-    }
-    if super::MAX_CONSTRAINTS < m.constraints {
-        return false;
-    }
-    let results = runs::held(m.results, super::MAX_RESULTS);
-    let n = runs_held(m);
-    let nodes = runs::start_of(&m.result_nodes, &m.constraint_nodes, results, n);
+    let nodes = runs::start_of(
+        &m.result_nodes,
+        &m.constraint_nodes,
+        m.results,
+        runs_held(m),
+    );
     nodes <= expression::MAX_NODES
 }
 
 // The reckoned range of run i.
-fn range_at(m: IndexingMap, i: usize) -> Reckoned
+fn range_at(m: IndexingMap, i: usize) -> Option<(i64, i64)>
     requires { Formed m × (i < runs m) }
     ensures { result ≡ range_at m i }
 {
-    let dims = m.dims;
-    let ranges = m.ranges;
-    match runs::run_of(m, i) {
-        Run::Held(from, count) => {
-            return expression::range_of(
-                &m.kinds, &m.values, &m.lower, &m.upper, dims, ranges, from, count,
-            );
-        }
-        Run::Cut => {
-            return Reckoned::Passed;
-        }
-    }
+    let (from, count) = runs::run_of(m, i)?;
+    expression::range_of(
+        &m.kinds, &m.values, &m.lower, &m.upper, m.dims, m.ranges, from, count,
+    )
 }
 
 // Number 8 does not apply.
@@ -159,74 +124,35 @@ pub fn good_ranges(m: IndexingMap) -> bool
     requires { Formed m }
     ensures { result ≡ good_ranges m }
 {
-    let n = runs_held(m);
-    let mut i: usize = 0;
-    while i < n {
-        match range_at(m, i) {
-            Reckoned::Kept(_, _) => {
-                i += 1;
-            }
-            Reckoned::Passed => {
-                return false;
-            }
+    for i in 0..runs_held(m) {
+        if range_at(m, i).is_none() {
+            return false;
         }
     }
     true
 }
 
 // The first rule that the map breaks, or none.
-pub fn judged(m: IndexingMap) -> Verdict
+pub fn judged(m: IndexingMap) -> Result<(), Refusal>
     ensures { result ≡ judge (map_rules m) }
 {
     if !good_parts(m) {
-        return Verdict::Refused(Refusal::Attribute);
+        return Err(Refusal::Attribute);
     }
     if !good_counts(m) {
-        return Verdict::Refused(Refusal::CountLimit);
+        return Err(Refusal::CountLimit);
     }
     if !good_ranges(m) {
-        return Verdict::Refused(Refusal::WorkingLimit);
+        return Err(Refusal::WorkingLimit);
     }
-    Verdict::Done
+    Ok(())
 }
 
 // Whether a map is accepted: refused with 2, 7 or 8.
-pub fn judge_map(m: IndexingMap) -> Verdict
+pub fn judge_map(m: IndexingMap) -> Result<(), Refusal>
     ensures { verdict_answer result ≡ judged_map m }
 {
     judged(m)
-}
-
-// No ranges, with their refusal.
-fn unranged(refusal: Refusal) -> ResultRanges
-    ensures { result ≡ unranged_of refusal }
-{
-    ResultRanges {
-        verdict: Verdict::Refused(refusal),
-        results: 0,
-        lower: [0i64; 8],
-        upper: [0i64; 8],
-    }
-}
-
-// The lower end of a range that is kept.
-fn low_end(r: Reckoned) -> i64
-    ensures { result ≡ low_end r }
-{
-    match r {
-        Reckoned::Kept(a, _) => a,
-        Reckoned::Passed => 0,
-    }
-}
-
-// The upper end of a range that is kept.
-fn high_end(r: Reckoned) -> i64
-    ensures { result ≡ high_end r }
-{
-    match r {
-        Reckoned::Kept(_, b) => b,
-        Reckoned::Passed => 0,
-    }
 }
 
 // The ranges of the results of an accepted map.
@@ -234,34 +160,24 @@ fn ranged(m: IndexingMap) -> ResultRanges
     requires { Accepted m }
     ensures { result ≡ ranged_of m }
 {
-    let results = m.results;
     let mut lower = [0i64; 8];
     let mut upper = [0i64; 8];
-    let mut i: usize = 0;
-    while i < results {
-        let r = range_at(m, i);
-        lower[i] = low_end(r);
-        upper[i] = high_end(r);
-        i += 1;
+    for i in 0..m.results {
+        let (low, high) = range_at(m, i).unwrap_or((0, 0));
+        lower[i] = low;
+        upper[i] = high;
     }
     ResultRanges {
-        verdict: Verdict::Done,
-        results,
+        results: m.results,
         lower,
         upper,
     }
 }
 
 // The reckoned ranges of a map's results: refused with 2, 7 or 8.
-pub fn result_ranges(m: IndexingMap) -> ResultRanges
+pub fn result_ranges(m: IndexingMap) -> Result<ResultRanges, Refusal>
     ensures { ranges_answer result ≡ result_ranges m }
 {
-    match judged(m) {
-        Verdict::Done => {
-            return ranged(m);
-        }
-        Verdict::Refused(r) => {
-            return unranged(r);
-        }
-    }
+    judged(m)?;
+    Ok(ranged(m))
 }

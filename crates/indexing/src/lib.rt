@@ -1,7 +1,6 @@
 // Indexing maps: the record, judging it, the reckoned ranges of its results and their values at a point.
 #![tactic(auto)]
 
-mod answers;
 pub mod inner;
 mod judging;
 mod points;
@@ -9,7 +8,6 @@ mod runs;
 
 pub use judging::{judge_map, result_ranges};
 pub use points::evaluate;
-use refusal::Verdict;
 
 // The most results of a map.
 pub const MAX_RESULTS: usize = 8;
@@ -36,33 +34,17 @@ pub struct IndexingMap {
     pub values: [i64; 256],
 }
 
-// Where a run of nodes stands and how many nodes it has, or that it is cut off.
-#[derive(Clone, Copy)]
-pub enum Run {
-    Held(usize, usize),
-    Cut,
-}
-
-// The answer of result_ranges: zeros when refused.
+// The reckoned ranges of the first results, and 0 past them.
 #[derive(Clone, Copy)]
 pub struct ResultRanges {
-    pub verdict: Verdict,
     pub results: usize,
     pub lower: [i64; 8],
     pub upper: [i64; 8],
 }
 
-// The answer of a call that makes a map: a map of zeros when refused.
-#[derive(Clone, Copy)]
-pub struct AnsweredMap {
-    pub verdict: Verdict,
-    pub map: IndexingMap,
-}
-
-// The answer of evaluate: zeros when refused.
+// The values of the first results, and 0 past them.
 #[derive(Clone, Copy)]
 pub struct ResultValues {
-    pub verdict: Verdict,
     pub results: usize,
     pub values: [i64; 8],
 }

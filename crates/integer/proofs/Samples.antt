@@ -1,10 +1,9 @@
 -- Worked examples of the definitions: lists of what is computed beside what it is, and that the two agree. Assumes nothing.
+use Rattle.std.specs.Prelude.{Option, Some, None}
 use mathlib.Core.Path.{◌≡◌, refl}
 use mathlib.Core.List.{List, [], ◌∷◌, map}
 use Prim.Native.Nat.{ℕ, suc, ◌^◌}
 use lib.IntN.{ℤ, pos, neg_ℤ}
-use Rattle.integer.specs.declared.Exact.{Exact}
-use Rattle.integer.specs.declared.Exact.TheVariants.{Value, Passed}
 use Rattle.integer.specs.Floor.{floor_div, floor_mod}
 use Rattle.integer.specs.Exact.{limit, exactly}
 use Rattle.integer.specs.Gcd.{gcd_of, least_remainder, rounds_of}
@@ -30,13 +29,13 @@ pub floor-samples : Agree floor_samples
 floor-samples = refl
 
 -- both ends of the limit are kept, and one more on either side has passed
-abbrev pub exact_samples : List (Exact × Exact)
+abbrev pub exact_samples : List (Option ℤ × Option ℤ)
 exact_samples =
-    (exactly (pos limit), Value (pos limit))
-    ∷ (exactly (pos (suc limit)), Passed)
-    ∷ (exactly (neg_ℤ (pos limit)), Value (neg_ℤ (pos limit)))
-    ∷ (exactly (neg_ℤ (pos (suc limit))), Passed)
-    ∷ (exactly (pos 0), Value (pos 0))
+    (exactly (pos limit), Some (pos limit))
+    ∷ (exactly (pos (suc limit)), None)
+    ∷ (exactly (neg_ℤ (pos limit)), Some (neg_ℤ (pos limit)))
+    ∷ (exactly (neg_ℤ (pos (suc limit))), None)
+    ∷ (exactly (pos 0), Some (pos 0))
     ∷ []
 
 pub exact-samples : Agree exact_samples

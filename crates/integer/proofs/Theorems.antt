@@ -1,4 +1,5 @@
 -- What the crate's definitions mean, one theorem under each sentence. Assumes nothing.
+use Rattle.std.specs.Prelude.{Some, None}
 use mathlib.Core.Path.{◌≡◌, refl, sym, ap, ◌∙◌}
 use mathlib.Core.Bool.{Bool, true, false}
 use mathlib.Core.Logic.{◌↔◌}
@@ -10,7 +11,6 @@ use lib.Dec.{leb}
 use lib.IntN.{ℤ, pos, neg_ℤ, nat_abs, ◌+ℤ◌, ◌-ℤ◌, ◌*ℤ◌, +ℤ_comm, +ℤ-neg_ℤ_cancel}
 use lib.Signed.{◌<ℤ◌, ◌≤ℤ◌}
 use borrow.Author.Tests.{leb-true, leb-false}
-use Rattle.integer.specs.declared.Exact.TheVariants.{Value, Passed}
 use Rattle.integer.specs.Floor.{floor_div, floor_mod}
 use Rattle.integer.specs.Exact.{limit, exactly, exact_answer}
 use Rattle.integer.specs.Gcd.{IsGcd, gcd_of, least_remainder, rounds_of}
@@ -58,10 +58,10 @@ pub floor-sample : (floor_div (neg_ℤ (pos 1)) 7 ≡ neg_ℤ (pos 1)) × (floor
 floor-sample = (refl, refl)
 
 -- A number is kept, as itself, exactly where its magnitude is at most the limit.
-pub exact-value : (z v : ℤ) → (exactly z ≡ Value v) ↔ ((v ≡ z) × (nat_abs z ≤ limit))
-exact-value z v = (kept (leb (nat_abs z) limit) refl, λ h. exact-in z h.1 ∙ ap Value (sym h.0))
+pub exact-value : (z v : ℤ) → (exactly z ≡ Some v) ↔ ((v ≡ z) × (nat_abs z ≤ limit))
+exact-value z v = (kept (leb (nat_abs z) limit) refl, λ h. exact-in z h.1 ∙ ap Some (sym h.0))
   where
-    kept : (b : Bool) → leb (nat_abs z) limit ≡ b → exactly z ≡ Value v → (v ≡ z) × (nat_abs z ≤ limit)
+    kept : (b : Bool) → leb (nat_abs z) limit ≡ b → exactly z ≡ Some v → (v ≡ z) × (nat_abs z ≤ limit)
     kept true e p =
         let h = leb-true (nat_abs z) limit e in
         let r = exact-in z h in
@@ -69,10 +69,10 @@ exact-value z v = (kept (leb (nat_abs z) limit) refl, λ h. exact-in z h.1 ∙ a
     kept false e p = absurd (exact_one p (exact-out z (leb-false (nat_abs z) limit e)))
 
 -- It has passed exactly where its magnitude is above the limit.
-pub exact-passed : (z : ℤ) → (exactly z ≡ Passed) ↔ (limit < nat_abs z)
+pub exact-passed : (z : ℤ) → (exactly z ≡ None) ↔ (limit < nat_abs z)
 exact-passed z = (gone (leb (nat_abs z) limit) refl, exact-out z)
   where
-    gone : (b : Bool) → leb (nat_abs z) limit ≡ b → exactly z ≡ Passed → limit < nat_abs z
+    gone : (b : Bool) → leb (nat_abs z) limit ≡ b → exactly z ≡ None → limit < nat_abs z
     gone true e p = absurd (exact_one (exact-in z (leb-true (nat_abs z) limit e)) p)
     gone false e p = leb-false (nat_abs z) limit e
 

@@ -12,13 +12,6 @@ pub const LIMIT: i64 = 1 << 62;
 // The most rounds of a greatest common divisor.
 const MAX_ROUNDS: u64 = 64;
 
-// An exact result, or that it passes the limit.
-#[derive(Clone, Copy)]
-pub enum Exact {
-    Value(i64),
-    Passed,
-}
-
 // a floordiv divisor, rounded towards minus infinity.
 pub fn floor_div(a: i64, divisor: i64) -> i64
     requires { pos 0 <ℤ divisor }
@@ -39,46 +32,24 @@ pub fn floor_mod(a: i64, divisor: i64) -> i64
 }
 
 // s, if it lies within the limit.
-fn within(s: i64) -> Exact
+fn within(s: i64) -> Option<i64>
     ensures { result ≡ exactly s }
 {
-    if s < -LIMIT {
-        Exact::Passed
-    } else if LIMIT < s {
-        Exact::Passed
-    } else {
-        Exact::Value(s)
-    }
+    (s.unsigned_abs() <= LIMIT.unsigned_abs()).then_some(s)
 }
 
-// a + b, if it lies within the limit. Nothing overflows: what is left to the limit is compared first.
-pub fn exact_add(a: i64, b: i64) -> Exact
+// a + b, if it lies within the limit.
+pub fn exact_add(a: i64, b: i64) -> Option<i64>
     ensures { result ≡ exactly (a +ℤ b) }
 {
-    if 0 < a {
-        if LIMIT - a < b {
-            Exact::Passed
-        } else {
-            within(a + b)
-        }
-    } else {
-        if b < -LIMIT - a {
-            Exact::Passed
-        } else {
-            within(a + b)
-        }
-    }
+    within(a.checked_add(b)?)
 }
 
 // How far a is from 0.
 pub fn magnitude(a: i64) -> u64
     ensures { result ≡ nat_abs a }
 {
-    if a < 0 {
-        (-(a + 1)) as u64 + 1
-    } else {
-        a as u64
-    }
+    a.unsigned_abs()
 }
 
 // The number of magnitude m, below 0 where negative.
@@ -90,20 +61,11 @@ pub fn with_sign(negative: bool, m: u64) -> i64
     if negative { -z } else { z }
 }
 
-// a * b, if it lies within the limit. The magnitudes are compared by a quotient, so that their product fits.
-pub fn exact_mul(a: i64, b: i64) -> Exact
+// a * b, if it lies within the limit.
+pub fn exact_mul(a: i64, b: i64) -> Option<i64>
     ensures { result ≡ exactly (a *ℤ b) }
 {
-    let x = magnitude(a);
-    let y = magnitude(b);
-    if x == 0 {
-        return Exact::Value(0);
-    }
-    if (LIMIT as u64) / x < y {
-        return Exact::Passed;
-    }
-    let negative = (a < 0) != (b < 0);
-    Exact::Value(with_sign(negative, x * y))
+    within(a.checked_mul(b)?)
 }
 
 // The least absolute remainder of x by y: the smaller of what is left and what is missing to y.
@@ -112,8 +74,7 @@ fn least_remainder(x: u64, y: u64) -> u64
     ensures { result ≡ least_remainder x y }
 {
     let t = x % y;
-    let missing = y - t;
-    if t < missing { t } else { missing }
+    t.min(y - t)
 }
 
 // The greatest common divisor of a and b; of 0 and 0 it is 0. By least absolute remainders, one division a round.
@@ -122,12 +83,13 @@ pub fn gcd(a: u64, b: u64) -> u64
 {
     let mut x = a;
     let mut y = b;
-    let mut round: u64 = 0;
-    while round < MAX_ROUNDS && y != 0 {
+    for _ in 0..MAX_ROUNDS {
+        if y == 0 {
+            break;
+        }
         let rest = least_remainder(x, y);
         x = y;
         y = rest;
-        round += 1;
     }
     x
 }

@@ -1,4 +1,5 @@
 -- What a shape and a layout that break no rule give: from the tests to the facts. Assumes nothing.
+use Rattle.std.specs.Prelude.{Ok}
 use mathlib.Core.Path.{◌≡◌, sym, ap, ◌∙◌, subst}
 use mathlib.Core.Bool.{true, ◌&&◌}
 use Prim.Native.Nat.{ℕ, ◌+◌, ◌*◌, ◌<◌, ◌≤◌}
@@ -15,7 +16,6 @@ use Rattle.tiling.proofs.Shaped.{reversed-permutation}
 use Rattle.radix.proofs.Radix.{length-tab}
 use Rattle.radix.proofs.Tests.{and_left, and_right, bounded_of}
 use Rattle.refusal.specs.Judge.{judge}
-use Rattle.refusal.specs.declared.Verdict.TheVariants.{Done}
 use Rattle.refusal.proofs.Judged.{kept, rest}
 use Rattle.shape.specs.Shape.{max_rank, sizes_of, good_shape}
 use Rattle.shape.specs.Dimensions.{is_permutation, Permutation}
@@ -103,9 +103,6 @@ module _ {rank : ℕ} {l : Layout} (k : Kept rank l) (o : List ℕ) where
   pub order-held : take (length (take rank l.minor_to_major)) o ≡ reversed (take rank l.minor_to_major) → take rank o ≡ order_of l
   order-held e = ap (λ (n : ℕ). take n o) (sym k.long) ∙ e ∙ ap reversed k.read
 
-  pub order-room : length o ≡ max_rank → (rank ≤ length o) × (length (take rank o) ≡ rank)
-  order-room six = let h : rank ≤ length o = omega (arith, k.few) in (h, length-take-le rank o h)
-
 pub shaped_of : {s : Shape} {l : Layout} → Limits s → Kept s.rank l → Shaped (sizes_of s) (order_of l) (lens_of l) l.tile
 shaped_of {s} {l} g k =
     record {
@@ -132,7 +129,7 @@ pub record Accepted (s : Shape) (l : Layout) : Type 0 where
   pub kept : Kept s.rank l
   pub ready : Ready (sizes_of s) (order_of l) (lens_of l) l.tile
 
-pub accepted : (s : Shape) (l : Layout) → length s.sizes ≡ max_rank → Arrays l → judge (layout_rules s l) ≡ Done → Accepted s l
+pub accepted : (s : Shape) (l : Layout) → length s.sizes ≡ max_rank → Arrays l → judge (layout_rules s l) ≡ Ok tt → Accepted s l
 accepted s l six a e =
     let g = limits s six (kept (good_shape s) _ _ e) in
     let f = rest (good_shape s) _ _ e in

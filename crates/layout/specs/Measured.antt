@@ -1,10 +1,12 @@
 -- What judging a shape and a layout leaves for the calls that go on: the order, the physical shape and the two counts. Assumes nothing.
-use Rattle.std.specs.Prelude.{ℕ, ◌+◌, ◌*◌, ◌≤◌, min, ◌≡◌, List, length, take}
+use Rattle.std.specs.Prelude.{ℕ, ◌+◌, ◌*◌, ◌≤◌, min, ◌≡◌, Result, Ok, Err, List, length, take}
 use Rattle.radix.specs.Radix.{max_count, prod}
+use Rattle.refusal.specs.Judge.{judge}
+use Rattle.refusal.specs.declared.Refusal.{Refusal}
 use Rattle.shape.specs.Shape.{max_rank, sizes_of, count_of}
 use Rattle.shape.specs.declared.Shape.{Shape}
 use Rattle.tiling.specs.Tile.{max_tiles, max_entries, max_physical, tiles_from, reversed, physical, padded}
-use Rattle.layout.specs.Layout.{order_of, tiles_of, padded_of}
+use Rattle.layout.specs.Layout.{order_of, tiles_of, padded_of, layout_rules}
 use Rattle.layout.specs.declared.Layout.{Layout}
 use Rattle.layout.specs.declared.parts.Extent.{Extent}
 
@@ -31,3 +33,8 @@ pub record IsExtent (x : Extent) (s : Shape) (l : Layout) (out dims : List ℕ) 
   pub same : take x.len dims ≡ physical (sizes_of s) (order_of l) (tiles_of l)
   pub count : x.count ≡ count_of s
   pub padded : x.padded ≡ padded_of s l
+
+-- what judging and measuring answers: the measures of a shape and a layout that break no rule, or the refusal of the first broken one
+abbrev pub Measured : Result Extent Refusal → Shape → Layout → List ℕ → List ℕ → Type 0
+Measured (Ok x) s l out dims = (judge (layout_rules s l) ≡ Ok tt) × IsExtent x s l out dims
+Measured (Err r) s l out dims = judge (layout_rules s l) ≡ Err r

@@ -1,15 +1,23 @@
 // Padded size, offsets and cells of records that break no rule. Inner functions.
-ghost use Rattle.std.specs.Prelude.{◌≡◌, ◌+◌, ◌<◌, min, true};
+ghost use Rattle.std.specs.Prelude.{◌≡◌, ◌+◌, ◌<◌, min, take, true};
 ghost use Rattle.radix.specs.Radix.{max_count, In};
 ghost use Rattle.refusal.specs.Judge.{judge};
-ghost use Rattle.refusal.specs.declared.Verdict.TheVariants.{Done};
 ghost use Rattle.shape.specs.Shape.{good_shape, sizes_of, count_of};
 ghost use Rattle.tiling.specs.Found.{found_cell};
-ghost use Rattle.layout.specs.Layout.{good_layout, layout_rules, padded_of, offset_of, point_offset_of, cell_of};
+ghost use Rattle.layout.specs.Layout.{good_layout, layout_rules, order_of, padded_of, offset_of, point_offset_of, cell_of};
 
 use super::Layout;
 use shape::Shape;
-use tiling::Found;
+
+// The dimensions in physical order, major first, in the first rank places.
+fn order_of(rank: usize, layout: Layout) -> [u64; 6]
+    requires { good_layout rank layout ≡ true }
+    ensures { take rank result ≡ order_of layout }
+{
+    let mut order = [0u64; 6];
+    tiling::reverse_into(&layout.minor_to_major[..rank], &mut order);
+    order
+}
 
 // The padded size, exact up to 2^40 and 2^40 + 1 for anything above.
 pub fn padded_capped(shape: Shape, layout: Layout) -> u64
@@ -17,19 +25,18 @@ pub fn padded_capped(shape: Shape, layout: Layout) -> u64
     ensures { result ≡ min (padded_of shape layout) (max_count + 1) }
 {
     let rank = shape.rank;
-    let tiles = layout.tiles;
-    let sizes = shape.sizes;
-    let m = layout.minor_to_major;
-    let lens = layout.tile_len;
-    let flat = layout.tile;
-    let mut order = [0u64; 6];
-    tiling::reverse_into(&m[..rank], &mut order);
-    tiling::padded_cells(&sizes[..rank], &order[..rank], &lens[..tiles], &flat)
+    let order = order_of(rank, layout);
+    tiling::padded_cells(
+        &shape.sizes[..rank],
+        &order[..rank],
+        &layout.tile_len[..layout.tiles],
+        &layout.tile,
+    )
 }
 
 // The padded size.
 pub fn padded_cells(shape: Shape, layout: Layout) -> u64
-    requires { judge (layout_rules shape layout) ≡ Done }
+    requires { judge (layout_rules shape layout) ≡ Ok tt }
     ensures { result ≡ padded_of shape layout }
 {
     padded_capped(shape, layout)
@@ -37,43 +44,41 @@ pub fn padded_cells(shape: Shape, layout: Layout) -> u64
 
 // The offset of element number n.
 pub fn offset_number(shape: Shape, layout: Layout, n: u64) -> u64
-    requires { (judge (layout_rules shape layout) ≡ Done) × (n < count_of shape) }
+    requires { (judge (layout_rules shape layout) ≡ Ok tt) × (n < count_of shape) }
     ensures { result ≡ offset_of shape layout n }
 {
     let rank = shape.rank;
-    let tiles = layout.tiles;
-    let sizes = shape.sizes;
-    let m = layout.minor_to_major;
-    let lens = layout.tile_len;
-    let flat = layout.tile;
-    let mut order = [0u64; 6];
-    tiling::reverse_into(&m[..rank], &mut order);
-    tiling::element_offset(&sizes[..rank], &order[..rank], &lens[..tiles], &flat, n)
+    let order = order_of(rank, layout);
+    tiling::element_offset(
+        &shape.sizes[..rank],
+        &order[..rank],
+        &layout.tile_len[..layout.tiles],
+        &layout.tile,
+        n,
+    )
 }
 
 // The offset of a point.
 pub fn point_offset(shape: Shape, layout: Layout, point: &[u64]) -> u64
-    requires { (judge (layout_rules shape layout) ≡ Done) × In point.now (sizes_of shape) }
+    requires { (judge (layout_rules shape layout) ≡ Ok tt) × In point.now (sizes_of shape) }
     ensures { result ≡ point_offset_of shape layout point.now }
 {
-    let rank = shape.rank;
-    let sizes = shape.sizes;
-    let n = radix::row_major(&sizes[..rank], point);
+    let n = radix::row_major(&shape.sizes[..shape.rank], point);
     offset_number(shape, layout, n)
 }
 
 // What the cell at offset k holds.
-pub fn cell_found(shape: Shape, layout: Layout, k: u64) -> Found
-    requires { (judge (layout_rules shape layout) ≡ Done) × (k < padded_of shape layout) }
+pub fn cell_found(shape: Shape, layout: Layout, k: u64) -> Option<u64>
+    requires { (judge (layout_rules shape layout) ≡ Ok tt) × (k < padded_of shape layout) }
     ensures { found_cell result ≡ cell_of shape layout k }
 {
     let rank = shape.rank;
-    let tiles = layout.tiles;
-    let sizes = shape.sizes;
-    let m = layout.minor_to_major;
-    let lens = layout.tile_len;
-    let flat = layout.tile;
-    let mut order = [0u64; 6];
-    tiling::reverse_into(&m[..rank], &mut order);
-    tiling::cell_found(&sizes[..rank], &order[..rank], &lens[..tiles], &flat, k)
+    let order = order_of(rank, layout);
+    tiling::cell_found(
+        &shape.sizes[..rank],
+        &order[..rank],
+        &layout.tile_len[..layout.tiles],
+        &layout.tile,
+        k,
+    )
 }

@@ -7,7 +7,7 @@ ghost use Rattle.layout.specs.Layout.{are_tiles, good_layout, layout_from, layou
 ghost use Rattle.layout.specs.Answers.{fit_rules};
 
 use super::{Layout, parts};
-use refusal::{Refusal, Verdict};
+use refusal::Refusal;
 use shape::Shape;
 
 // Each tile keeps its rule, on rank dimensions before the first.
@@ -16,26 +16,15 @@ fn good_tiles(rank: usize, lens: &[usize], flat: &[u64]) -> bool
     ensures { result ≡ are_tiles rank lens.now flat.now }
 {
     let mut n = rank;
-    let mut l: usize = 0;
-    while l < lens.len() {
-        let m = lens[l];
-        if m < 1 {
-            return false;
-        }
-        if super::MAX_ENTRIES < m {
-            return false;
-        }
-        if n < m {
+    for (l, m) in lens.iter().enumerate() {
+        if *m < 1 || super::MAX_ENTRIES < *m || n < *m {
             return false;
         }
         let a = super::MAX_ENTRIES * l;
-        let e = a + m;
-        if radix::within(&flat[a..e], super::MAX_ENTRY) {
-            n += m;
-            l += 1;
-        } else {
+        if !radix::within(&flat[a..a + *m], super::MAX_ENTRY) {
             return false;
         }
+        n += *m;
     }
     true
 }
@@ -52,61 +41,54 @@ pub fn good_parts(
     requires { (length m.now ≡ max_rank) × (length lens.now ≡ max_tiles) × (length flat.now ≡ max_entries * max_tiles) }
     ensures { result ≡ good_layout rank (layout_from n m.now tiles lens.now flat.now) }
 {
-    if n != rank {
+    if n != rank || shape::MAX_RANK < n || super::MAX_TILES < tiles {
         return false;
     }
-    if shape::MAX_RANK < n {
-        return false;
-    }
-    if super::MAX_TILES < tiles {
-        return false;
-    }
-    if shape::is_permutation(&m[..n]) {
-        good_tiles(n, &lens[..tiles], flat)
-    } else {
-        false
-    }
+    shape::is_permutation(&m[..n]) && good_tiles(n, &lens[..tiles], flat)
 }
 
 // The layout keeps its rule, for shapes of this rank.
 pub fn good_layout(rank: usize, layout: Layout) -> bool
     ensures { result ≡ good_layout rank layout }
 {
-    let n = layout.rank;
-    let tiles = layout.tiles;
-    let m = layout.minor_to_major;
-    let lens = layout.tile_len;
-    let flat = layout.tile;
-    good_parts(rank, n, &m, tiles, &lens, &flat)
+    good_parts(
+        rank,
+        layout.rank,
+        &layout.minor_to_major,
+        layout.tiles,
+        &layout.tile_len,
+        &layout.tile,
+    )
 }
 
 // The rules of a shape and a layout: 1, 3, 4.
-pub fn judge_layout(shape: Shape, layout: Layout) -> Verdict
+pub fn judge_layout(shape: Shape, layout: Layout) -> Result<(), Refusal>
     ensures { result ≡ judge (layout_rules shape layout) }
 {
-    let n = layout.rank;
-    let tiles = layout.tiles;
-    let m = layout.minor_to_major;
-    let lens = layout.tile_len;
-    let flat = layout.tile;
     let mut order = [0u64; 6];
     let mut dims = [0u64; 24];
-    let g = parts::measure(shape, n, &m, tiles, &lens, &flat, &mut order, &mut dims);
-    g.verdict
+    parts::measure(
+        shape,
+        layout.rank,
+        &layout.minor_to_major,
+        layout.tiles,
+        &layout.tile_len,
+        &layout.tile,
+        &mut order,
+        &mut dims,
+    )?;
+    Ok(())
 }
 
 // The same with a cell limit: 1, 2, 3, 4.
-pub fn judge_fit(shape: Shape, layout: Layout, limit: u64) -> Verdict
+pub fn judge_fit(shape: Shape, layout: Layout, limit: u64) -> Result<(), Refusal>
     ensures { result ≡ judge (fit_rules shape layout limit) }
 {
     if !shape::good_shape(shape) {
-        return Verdict::Refused(Refusal::ShapeLimits);
+        return Err(Refusal::ShapeLimits);
     }
-    if limit < 1 {
-        return Verdict::Refused(Refusal::Attribute);
-    }
-    if radix::MAX_COUNT < limit {
-        return Verdict::Refused(Refusal::Attribute);
+    if limit < 1 || radix::MAX_COUNT < limit {
+        return Err(Refusal::Attribute);
     }
     judge_layout(shape, layout)
 }

@@ -10,7 +10,7 @@ pub fn share(a: u64, b: u64) -> f64
     requires { (a ≤ max_count) × (0 < b) × (b ≤ max_count) }
     ensures { result ≡ share_of a b }
 {
-    (a as f64) / (b as f64)
+    a as f64 / b as f64
 }
 
 // A size against a limit.

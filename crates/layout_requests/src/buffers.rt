@@ -1,110 +1,67 @@
 // The answers on buffers: packing, unpacking, storing and loading over lent parts of arrays.
-use crate::arguments::Arguments;
-use layout::Padded;
-use pack::Loaded;
-use reading::{fill, front};
-use refusal::Verdict;
-use shape::{Counted, Element};
-use std::io;
+use crate::read_tiled;
+use reading::{Line, PLACES, count_up, first_of, front};
+use shape::Element;
 use std::io::Write;
-use writing::{labelled, refused, text, values, wide};
+use writing::{Failure, Spaced};
 
 // What a place that the call is to write holds before it.
 const BEFORE: u32 = 7;
 
-// The cells up to the padded size.
-fn cells_up_to<W: Write>(a: Arguments, out: &mut W, cells: &[u32]) -> io::Result<()> {
-    match layout::padded_size(a.shape, a.layout) {
-        Padded::Cells(n) => values(out, b"cells", cells, n),
-        Padded::Refused(r) => refused(out, r),
-    }
+pub fn answer_pack<W: Write>(mut line: Line<'_>, out: &mut W) -> Result<(), Failure> {
+    let (shape, layout) = read_tiled(&mut line)?;
+    let lengths = line.buffer_lengths()?;
+    line.finish()?;
+    let mut source = [0; PLACES];
+    let mut cells = [BEFORE; PLACES];
+    count_up(&mut source, 1);
+    let cells = front(&mut cells, lengths.made);
+    pack::pack(shape, layout, front(&mut source, lengths.given), cells)?;
+    let size = layout::padded_size(shape, layout)?;
+    write!(out, "cells{}", Spaced(first_of(cells, size as usize)))?;
+    Ok(())
 }
 
-// The places up to the element count.
-fn elements_up_to<W: Write>(a: Arguments, out: &mut W, places: &[u32]) -> io::Result<()> {
-    match shape::element_count(a.shape) {
-        Counted::Elements(n) => values(out, b"elements", places, n),
-        Counted::Refused(r) => refused(out, r),
-    }
-}
-
-fn pack_in<W: Write>(
-    a: Arguments,
-    out: &mut W,
-    source: &mut [u32],
-    cells: &mut [u32],
-) -> io::Result<()> {
-    fill(source, 1, 1);
-    fill(cells, BEFORE, 0);
-    match pack::pack(a.shape, a.layout, source, cells) {
-        Verdict::Done => cells_up_to(a, out, cells),
-        Verdict::Refused(r) => refused(out, r),
-    }
-}
-
-pub fn packed<W: Write>(a: Arguments, out: &mut W) -> io::Result<()> {
-    let mut source = [0u32; 4096];
-    let mut cells = [0u32; 4096];
-    pack_in(
-        a,
+pub fn answer_unpack<W: Write>(mut line: Line<'_>, out: &mut W) -> Result<(), Failure> {
+    let (shape, layout) = read_tiled(&mut line)?;
+    let lengths = line.buffer_lengths()?;
+    line.finish()?;
+    let mut cells = [0; PLACES];
+    let mut elements = [BEFORE; PLACES];
+    count_up(&mut cells, 0);
+    let elements = front(&mut elements, lengths.made);
+    pack::unpack(shape, layout, front(&mut cells, lengths.given), elements)?;
+    let count = shape::element_count(shape)?;
+    write!(
         out,
-        front(&mut source, a.given),
-        front(&mut cells, a.made),
-    )
+        "elements{}",
+        Spaced(first_of(elements, count as usize))
+    )?;
+    Ok(())
 }
 
-fn unpack_in<W: Write>(
-    a: Arguments,
-    out: &mut W,
-    cells: &mut [u32],
-    places: &mut [u32],
-) -> io::Result<()> {
-    fill(cells, 0, 1);
-    fill(places, BEFORE, 0);
-    match pack::unpack(a.shape, a.layout, cells, places) {
-        Verdict::Done => elements_up_to(a, out, places),
-        Verdict::Refused(r) => refused(out, r),
-    }
+pub fn answer_store<W: Write>(mut line: Line<'_>, out: &mut W) -> Result<(), Failure> {
+    let (shape, layout) = read_tiled(&mut line)?;
+    let element = Element(line.unsigned()?);
+    let value = line.value()?;
+    let length = line.buffer_length()?;
+    line.finish()?;
+    let mut cells = [BEFORE; PLACES];
+    let cells = front(&mut cells, length);
+    pack::store(shape, layout, element, value, cells)?;
+    let size = layout::padded_size(shape, layout)?;
+    write!(out, "cells{}", Spaced(first_of(cells, size as usize)))?;
+    Ok(())
 }
 
-pub fn unpacked<W: Write>(a: Arguments, out: &mut W) -> io::Result<()> {
-    let mut cells = [0u32; 4096];
-    let mut places = [0u32; 4096];
-    unpack_in(
-        a,
-        out,
-        front(&mut cells, a.given),
-        front(&mut places, a.made),
-    )
-}
-
-// The value is a u32, as it was read.
-fn narrow(value: u64) -> u32 {
-    (value % 4294967296) as u32
-}
-
-fn store_in<W: Write>(a: Arguments, out: &mut W, cells: &mut [u32]) -> io::Result<()> {
-    fill(cells, BEFORE, 0);
-    match pack::store(a.shape, a.layout, Element(a.number), narrow(a.value), cells) {
-        Verdict::Done => cells_up_to(a, out, cells),
-        Verdict::Refused(r) => refused(out, r),
-    }
-}
-
-pub fn stored<W: Write>(a: Arguments, out: &mut W) -> io::Result<()> {
-    let mut cells = [0u32; 4096];
-    store_in(a, out, front(&mut cells, a.made))
-}
-
-fn load_from<W: Write>(a: Arguments, out: &mut W, cells: &mut [u32]) -> io::Result<()> {
-    fill(cells, 0, 1);
-    match pack::load(a.shape, a.layout, Element(a.number), cells) {
-        Loaded::Value(v) => labelled(out, b"value ", wide(v)),
-        Loaded::Refused(r) => refused(out, r),
-    }
-}
-
-pub fn loaded<W: Write>(a: Arguments, out: &mut W) -> io::Result<()> {
-    let mut cells = [0u32; 4096];
-    load_from(a, out, front(&mut cells, a.given))
+pub fn answer_load<W: Write>(mut line: Line<'_>, out: &mut W) -> Result<(), Failure> {
+    let (shape, layout) = read_tiled(&mut line)?;
+    let element = Element(line.unsigned()?);
+    let length = line.buffer_length()?;
+    line.finish()?;
+    let mut cells = [0; PLACES];
+    count_up(&mut cells, 0);
+    let value = pack::load(shape, layout, element, front(&mut cells, length))?;
+    write!(out, "value {value}")?;
+    Ok(())
 }

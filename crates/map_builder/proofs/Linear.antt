@@ -5,7 +5,7 @@ use mathlib.Core.List.{List, [], ◌∷◌, ◌++◌, append_assoc, append-nil}
 use Prim.Native.Nat.{ℕ, zero, suc, ◌+◌, ◌-◌, ◌*◌, ◌<◌, ◌≤◌, min}
 use native.Mathlib.Nat.{mul-le-mul_right, min-eq_left}
 use native.Mathlib.Omega.{arith}
-use borrow.Author.Tests.{eq-eqb, ne_eqb}
+use borrow.Author.Tests.{eq-eqb}
 use lib.Dec.{eqb}
 use lib.IntN.{ℤ, pos}
 use lib.ListN.{length, take, drop, length-drop, drop_of_length-le}
@@ -19,7 +19,7 @@ use Rattle.expression.specs.declared.Node.TheVariants as N
 use Rattle.expression.specs.declared.One.TheVariants.{Product}
 use Rattle.encoding.specs.Postfix.{variable_of}
 use Rattle.map_builder.specs.Raw.{Raw}
-use Rattle.map_builder.specs.Draft.{push_variable, push_constant, push_sum, push_product, push_term, push_terms, push_linear}
+use Rattle.map_builder.specs.Draft.{push_variable, push_sum, push_product, push_term, push_terms, push_linear}
 use Rattle.map_builder.specs.declared.Draft.{Draft}
 use Rattle.map_builder.proofs.Drafted.{Drafted, node-drafted, variable-value}
 use Rattle.map_builder.proofs.Steps.{Grown, pushed-grown, grown-then}
@@ -35,11 +35,6 @@ module _ (x y z : Draft) (k f : ℕ) (w : ℤ) (e : y ≡ push_variable x k) (g 
       two
       ∙ sym (ap (λ (b : Bool). cond b (push_product (push_variable x k) (pos f)) (push_sum (push_product (push_variable x k) (pos f)))) (eq-eqb k 0 q))
 
-  pub term-next : (k ≡ 0 → ⊥) → (u : Draft) → u ≡ push_sum z → u ≡ push_term x k f
-  term-next q u h =
-      h ∙ ap push_sum two
-      ∙ sym (ap (λ (b : Bool). cond b (push_product (push_variable x k) (pos f)) (push_sum (push_product (push_variable x k) (pos f)))) (ne_eqb k 0 q))
-
 pub terms-next : (ns : List ℕ) (i : ℕ) (x y z : Draft) (f : ℕ) → i < length ns → y ≡ push_term x i f → f ≡ prod (drop (i + 1) ns) → push_terms i (drop i ns) x ≡ z → push_terms (i + 1) (drop (i + 1) ns) y ≡ z
 unfolding push_terms
 terms-next ns i x y z f h e p w =
@@ -50,10 +45,6 @@ terms-next ns i x y z f h e p w =
 pub terms-end : (ns : List ℕ) (i : ℕ) (x : Draft) → length ns ≤ i → push_terms i (drop i ns) x ≡ x
 unfolding push_terms
 terms-end ns i x h = ap (λ (l : List ℕ). push_terms i l x) (drop_of_length-le ns h)
-
-pub linear-none : (ns : List ℕ) (x : Draft) → length ns ≡ 0 → push_linear ns x ≡ push_constant x (pos 0)
-linear-none [] x h = refl
-linear-none (n ∷ ns) x h = absurd (omega arith)
 
 pub linear-some : (ns : List ℕ) (x : Draft) → (length ns ≡ 0 → ⊥) → push_terms 0 ns x ≡ push_linear ns x
 linear-some [] x h = absurd (h refl)

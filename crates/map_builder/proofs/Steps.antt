@@ -28,9 +28,6 @@ pub steps_next : (f : ℕ → Draft → Draft) (i : ℕ) (x y z : Draft) → y �
 unfolding steps
 steps_next f i x y z e g = g ∙ ap (f i) e ∙ ap (λ (k : ℕ). steps f k x) (sym (add-one i))
 
-pub steps-end : (f : ℕ → Draft → Draft) (i n : ℕ) (x y : Draft) → y ≡ steps f i x → i ≤ n → n ≤ i → y ≡ steps f n x
-steps-end f i n x y e g h = let q : i ≡ n = omega arith in e ∙ ap (λ (k : ℕ). steps f k x) q
-
 -- n steps, each with at most one of everything, 4 nodes, and no tree left under way
 pub record Grows (x y : Draft) (n : ℕ) : Type 0 where
   pub dims : y.map.dims ≤ x.map.dims + n

@@ -10,10 +10,8 @@ pub fn add_whole(d: Draft, sizes: &[u64]) -> Draft
     ensures { result ≡ steps (add_size sizes.now) (length sizes.now) d }
 {
     let mut out = d;
-    let mut i: usize = 0;
-    while i < sizes.len() {
-        out = drafts::add_bound(out, 0, sizes[i] - 1);
-        i += 1;
+    for size in sizes {
+        out = drafts::add_bound(out, 0, *size - 1);
     }
     out
 }
@@ -24,11 +22,8 @@ pub fn add_selected(d: Draft, sizes: &[u64], list: &[u64]) -> Draft
     ensures { result ≡ steps (add_selected sizes.now list.now) (length list.now) d }
 {
     let mut out = d;
-    let mut i: usize = 0;
-    while i < list.len() {
-        let k = list[i] as usize;
-        out = drafts::add_bound(out, 0, sizes[k] - 1);
-        i += 1;
+    for k in list {
+        out = drafts::add_bound(out, 0, sizes[*k as usize] - 1);
     }
     out
 }
@@ -39,11 +34,8 @@ pub fn add_variables(d: Draft, list: &[u64]) -> Draft
     ensures { result ≡ steps (add_variable list.now) (length list.now) d }
 {
     let mut out = d;
-    let mut i: usize = 0;
-    while i < list.len() {
-        let k = list[i] as usize;
-        out = drafts::end_result(trees::push_variable(out, k));
-        i += 1;
+    for k in list {
+        out = drafts::end_result(trees::push_variable(out, *k as usize));
     }
     out
 }
@@ -55,10 +47,7 @@ fn push_term(d: Draft, k: usize, factor: u64) -> Draft
 {
     let v = trees::push_variable(d, k);
     let p = trees::push_product(v, signs::natural(factor));
-    if k == 0 {
-        return p;
-    }
-    trees::push_sum(p)
+    if k == 0 { p } else { trees::push_sum(p) }
 }
 
 // The linear index over sizes.
@@ -66,15 +55,12 @@ pub fn push_linear(d: Draft, sizes: &[u64]) -> Draft
     requires { LinearRoom d sizes.now }
     ensures { result ≡ push_linear sizes.now d }
 {
-    if sizes.len() == 0 {
+    if sizes.is_empty() {
         return trees::push_constant(d, 0);
     }
     let mut out = d;
-    let mut i: usize = 0;
-    while i < sizes.len() {
-        let next = i + 1;
-        out = push_term(out, i, radix::product(&sizes[next..]));
-        i = next;
+    for i in 0..sizes.len() {
+        out = push_term(out, i, radix::product(&sizes[i + 1..]));
     }
     out
 }

@@ -15,5 +15,5 @@ pub fn negative(value: u64) -> i64
     requires { value ≤ max_count }
     ensures { result ≡ neg_ℤ (pos value) }
 {
-    0 - (value as i64)
+    -(value as i64)
 }

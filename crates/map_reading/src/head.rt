@@ -1,67 +1,40 @@
 // Reading a map's head: the names of its variables.
-use crate::token::{expect_arrow, expect_variable};
-use reading::{Cursor, expect, is_next, one_more};
+use crate::variables::{Sort, Variable, expect_variable};
+use indexing::IndexingMap;
+use reading::{Line, Unreadable};
 
-// How many dimensions and range variables a head names.
-#[derive(Clone, Copy)]
-pub struct Head {
-    pub dims: usize,
-    pub ranges: usize,
-    pub next: Cursor,
+// Reads names with commas between them, in the order of their numbers from 0. The answer is how many there are.
+fn read_names(line: &mut Line<'_>, sort: Sort) -> Result<usize, Unreadable> {
+    let most = line.length();
+    for number in 0..most {
+        expect_variable(line, Variable { sort, number })?;
+        if !line.accept(b',') {
+            return Ok(number + 1);
+        }
+    }
+    Ok(most)
 }
 
-// How many variables of one kind a head names.
-#[derive(Clone, Copy)]
-pub struct Names {
-    pub count: usize,
-    pub next: Cursor,
+// Reads the names of a sort, or none, up to the bracket that closes.
+fn read_names_before(line: &mut Line<'_>, sort: Sort, close: u8) -> Result<usize, Unreadable> {
+    if line.accept(close) {
+        return Ok(0);
+    }
+    let count = read_names(line, sort)?;
+    line.expect(close)?;
+    Ok(count)
 }
 
-// Names with commas between them, in the order of their numbers from 0.
-fn read_names(line: &[u8], from: Cursor, letter: u8) -> Names {
-    let mut next = expect_variable(line, from, letter, 0);
-    let mut count = 1;
-    let mut left = line.len();
-    while left > 0 && is_next(line, next, b',') {
-        next = expect_variable(line, expect(line, next, b','), letter, count);
-        count = one_more(count);
-        left -= 1;
+// Reads the names of the variables and the arrow. The range variables may be left out.
+pub fn read_head(line: &mut Line<'_>, map: &mut IndexingMap) -> Result<(), Unreadable> {
+    line.expect(b'(')?;
+    map.dims = read_names_before(line, Sort::Dimension, b')')?;
+    if line.accept(b'[') {
+        map.ranges = read_names_before(line, Sort::Range, b']')?;
     }
-    Names { count, next }
-}
-
-// The names of a kind up to the bracket that closes, or none.
-fn names_before(line: &[u8], from: Cursor, letter: u8, close: u8) -> Names {
-    if is_next(line, from, close) {
-        return Names {
-            count: 0,
-            next: expect(line, from, close),
-        };
+    if !line.rest().starts_with(b"->") {
+        return Err(line.unreadable());
     }
-    let names = read_names(line, from, letter);
-    Names {
-        count: names.count,
-        next: expect(line, names.next, close),
-    }
-}
-
-// The range variables, which may be left out.
-fn read_ranges(line: &[u8], from: Cursor) -> Names {
-    if is_next(line, from, b'[') {
-        return names_before(line, expect(line, from, b'['), b's', b']');
-    }
-    Names {
-        count: 0,
-        next: from,
-    }
-}
-
-pub fn read_head(line: &[u8], from: Cursor) -> Head {
-    let dims = names_before(line, expect(line, from, b'('), b'd', b')');
-    let ranges = read_ranges(line, dims.next);
-    Head {
-        dims: dims.count,
-        ranges: ranges.count,
-        next: expect_arrow(line, ranges.next),
-    }
+    line.take(2);
+    Ok(())
 }

@@ -8,8 +8,9 @@ mod head;
 mod map;
 mod nodes;
 mod results;
-mod token;
+mod stack;
+mod variables;
 
-pub use map::{MapRead, read_map};
-pub use nodes::{CONSTANT, FLOORDIV, MOD, PRODUCT, SUM, VARIABLE};
-pub use token::{Signed, place_of, read_signed};
+pub use map::read_map;
+pub use nodes::Kind;
+pub use variables::{Sort, Variable};

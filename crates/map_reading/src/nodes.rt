@@ -1,47 +1,83 @@
-// The nodes of a map while it is read: they are put into two lent lists, in postfix order. What has no place there is left out.
+// The nodes of a map while it is read: they are put into two lists, in postfix order. What has no place there is left out.
+use reading::put_at;
 
-// The kinds of node.
-pub const VARIABLE: u8 = 0;
+// The most nodes of a map.
+const MOST: usize = 256;
 
-pub const CONSTANT: u8 = 1;
+// The kinds of node, by the numbers that a record has for them.
+#[derive(Clone, Copy, Debug, PartialEq, Eq)]
+pub enum Kind {
+    Variable,
+    Constant,
+    Sum,
+    Product,
+    Floordiv,
+    Mod,
+}
 
-pub const SUM: u8 = 2;
-
-pub const PRODUCT: u8 = 3;
-
-pub const FLOORDIV: u8 = 4;
-
-pub const MOD: u8 = 5;
-
-// Puts a node at a place.
-pub fn put_node(kinds: &mut [u8], values: &mut [i64], place: usize, kind: u8, value: i64) {
-    if place < kinds.len() {
-        if place < values.len() {
-            kinds[place] = kind;
-            values[place] = value;
+impl Kind {
+    // The kind with a number, of which a record has none but the six.
+    pub fn numbered(number: u8) -> Kind {
+        match number {
+            0 => Kind::Variable,
+            1 => Kind::Constant,
+            2 => Kind::Sum,
+            4 => Kind::Floordiv,
+            5 => Kind::Mod,
+            _ => Kind::Product,
         }
     }
 }
 
-// The number of that sign and magnitude. One past 64 signed bits is handed on as -2^63, which no map holds either.
-pub fn signed_of(negative: bool, magnitude: u64) -> i64 {
-    if 9223372036854775807 < magnitude {
-        return i64::MIN;
+#[derive(Clone, Copy)]
+pub struct Nodes {
+    pub kinds: [u8; 256],
+    pub values: [i64; 256],
+    // Where the next node goes.
+    pub place: usize,
+    // Whether the last node is a constant: the tree that ends there is then that constant alone.
+    is_constant: bool,
+}
+
+impl Nodes {
+    pub fn new() -> Nodes {
+        Nodes {
+            kinds: [0; MOST],
+            values: [0; MOST],
+            place: 0,
+            is_constant: false,
+        }
     }
-    let z = magnitude as i64;
-    if negative { -z } else { z }
-}
 
-fn opposite(z: i64) -> i64 {
-    signed_of(0 <= z, integer::magnitude(z))
-}
+    // Goes on at a place.
+    pub fn go_to(&mut self, place: usize) {
+        self.place = place;
+        self.is_constant = false;
+    }
 
-// Puts the opposite of the constant before a place.
-pub fn oppose_constant(values: &mut [i64], place: usize) {
-    if 0 < place {
-        let at = place - 1;
-        if at < values.len() {
-            values[at] = opposite(values[at]);
+    // Past all places.
+    pub fn go_past(&mut self) {
+        self.go_to(MOST);
+    }
+
+    // Puts a node.
+    pub fn put(&mut self, kind: Kind, value: i64) {
+        put_at(&mut self.kinds, self.place, kind as u8);
+        put_at(&mut self.values, self.place, value);
+        self.place = self.place.saturating_add(1);
+        self.is_constant = kind == Kind::Constant;
+    }
+
+    // Makes the tree that was put last its opposite: a constant the opposite constant, else a product by -1. That of -2^63,
+    // which no map holds, stays as it is.
+    pub fn oppose(&mut self) {
+        if !self.is_constant {
+            self.put(Kind::Product, -1);
+            return;
+        }
+        let last = self.place.saturating_sub(1);
+        if let Some(value) = self.values.get_mut(last) {
+            *value = value.wrapping_neg();
         }
     }
 }

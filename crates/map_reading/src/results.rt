@@ -1,80 +1,49 @@
 // Reading a map's results: expressions with commas between them.
 use crate::expressions::read_expression;
-use reading::{Cursor, expect, is_next, one_more};
+use crate::nodes::Nodes;
+use crate::stack::Stack;
+use indexing::IndexingMap;
+use reading::{Line, Unreadable, put_at};
 
-// How many results there are, the numbers of nodes of the first 8, and where the next node goes.
-#[derive(Clone, Copy)]
-pub struct Results {
-    pub count: usize,
-    pub nodes: [usize; 8],
-    pub place: usize,
-    pub next: Cursor,
-}
+// The most results of a map.
+const MOST: usize = 8;
 
-// With the result at a cursor. Past the first 8 its nodes take no place: they go past the last one.
-fn with_result(
-    line: &[u8],
-    read: Results,
-    from: Cursor,
-    pending: &mut [u8],
-    kinds: &mut [u8],
-    values: &mut [i64],
-) -> Results {
-    let at = read.count;
-    let place = if at < 8 { read.place } else { kinds.len() };
-    let tree = read_expression(line, from, place, pending, kinds, values);
-    let next = tree.next;
-    let mut after = read;
-    after.count = one_more(at);
-    after.next = next;
-    if at < 8 {
-        after.nodes[at] = tree.count;
-        after.place = tree.place;
+// Reads a result. Past the first 8 its nodes take no place: they go past the last one.
+fn read_result(
+    line: &mut Line<'_>,
+    map: &mut IndexingMap,
+    nodes: &mut Nodes,
+    stack: &mut Stack,
+) -> Result<(), Unreadable> {
+    let place = nodes.place;
+    if map.results >= MOST {
+        nodes.go_past();
     }
-    after
-}
-
-// One result or more.
-fn some_results(
-    line: &[u8],
-    none: Results,
-    pending: &mut [u8],
-    kinds: &mut [u8],
-    values: &mut [i64],
-) -> Results {
-    let mut read = with_result(line, none, none.next, pending, kinds, values);
-    let mut left = line.len();
-    while left > 0 && is_next(line, read.next, b',') {
-        let from = expect(line, read.next, b',');
-        read = with_result(line, read, from, pending, kinds, values);
-        left -= 1;
+    let count = read_expression(line, nodes, stack)?;
+    if map.results >= MOST {
+        nodes.go_to(place);
     }
-    read
+    put_at(&mut map.result_nodes, map.results, count);
+    map.results = map.results.saturating_add(1);
+    Ok(())
 }
 
-// Past the parenthesis that closes the results.
-fn closed(line: &[u8], read: Results) -> Results {
-    let next = expect(line, read.next, b')');
-    let mut after = read;
-    after.next = next;
-    after
-}
-
+// Reads the results, or none, between parentheses.
 pub fn read_results(
-    line: &[u8],
-    from: Cursor,
-    pending: &mut [u8],
-    kinds: &mut [u8],
-    values: &mut [i64],
-) -> Results {
-    let none = Results {
-        count: 0,
-        nodes: [0; 8],
-        place: 0,
-        next: expect(line, from, b'('),
-    };
-    if is_next(line, none.next, b')') {
-        return closed(line, none);
+    line: &mut Line<'_>,
+    map: &mut IndexingMap,
+    nodes: &mut Nodes,
+    stack: &mut Stack,
+) -> Result<(), Unreadable> {
+    line.expect(b'(')?;
+    if line.accept(b')') {
+        return Ok(());
     }
-    closed(line, some_results(line, none, pending, kinds, values))
+    for _ in 0..line.length() {
+        read_result(line, map, nodes, stack)?;
+        if !line.accept(b',') {
+            break;
+        }
+    }
+    line.expect(b')')
 }

@@ -1,31 +1,25 @@
 // The requests that answer a map: `fold`, the folded map, and `compose`, two maps after each other.
-use crate::{read_deep, read_last};
-use map_printing::print_answer;
-use reading::{Cursor, expect};
-use std::io;
+use map_printing::print_map;
+use map_reading::read_map;
+use reading::Line;
 use std::io::Write;
-use writing::error;
+use writing::Failure;
 
-// The answer to a request whose map starts at a cursor.
-pub fn answer_fold<W: Write>(line: &[u8], from: Cursor, out: &mut W) -> io::Result<()> {
-    let read = read_last(line, from);
-    let map = read.map;
-    let end = read.next;
-    if !end.ok {
-        return error(out, end.at);
-    }
-    print_answer(out, fold::fold_map(map))
+pub fn answer_fold<W: Write>(mut line: Line<'_>, out: &mut W) -> Result<(), Failure> {
+    let map = read_map(&mut line)?;
+    line.finish()?;
+    let folded = fold::fold_map(map)?;
+    print_map(out, &folded)?;
+    Ok(())
 }
 
-// The answer to a request whose first map starts at a cursor, with a semicolon before the second.
-pub fn answer_compose<W: Write>(line: &[u8], from: Cursor, out: &mut W) -> io::Result<()> {
-    let first = read_deep(line, from);
-    let f = first.map;
-    let second = read_last(line, expect(line, first.next, b';'));
-    let g = second.map;
-    let end = second.next;
-    if !end.ok {
-        return error(out, end.at);
-    }
-    print_answer(out, compose::compose(f, g))
+// A semicolon stands before the second map.
+pub fn answer_compose<W: Write>(mut line: Line<'_>, out: &mut W) -> Result<(), Failure> {
+    let first = read_map(&mut line)?;
+    line.expect(b';')?;
+    let second = read_map(&mut line)?;
+    line.finish()?;
+    let composed = compose::compose(first, second)?;
+    print_map(out, &composed)?;
+    Ok(())
 }

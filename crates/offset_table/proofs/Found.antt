@@ -1,19 +1,21 @@
 -- Laws of the search in a table: where it stops, and what that says of the table. Assumes nothing.
-use mathlib.Core.Path.{◌≡◌, refl, sym, ◌∙◌}
+use Rattle.std.specs.Prelude.{Option, Some, None}
+use mathlib.Core.Path.{◌≡◌, refl, sym, ap, ◌∙◌}
 use mathlib.Core.Bool.{Bool, true, false, cond}
 use mathlib.Core.Logic.{⊎_elim}
 use Prim.Native.Nat.{ℕ, ◌<◌, ◌≤◌}
 use native.Mathlib.Omega.{arith}
 use mathlib.Core.List.{List}
-use lib.Dec.{ltb}
+use lib.Dec.{ltb, leb}
 use lib.ListN.{length, get_or}
 use native.Mathlib.Nat.{eq-or-lt_of_le}
 use borrow.Author.Tests.{eq-eqb, eqb-true, lt-ltb, le-ltb, le-leb, lt-leb, leb-true, leb-false, ltb-true, ltb-false}
+use Rattle.std.specs.List.{position, position_or_len}
+use Rattle.std.proofs.lemmas.List.Quantifiers.{position-Some}
 use Rattle.radix.proofs.Lists.{le-or-lt}
 use Rattle.radix.proofs.Tests.{first-is, first-none, first-true, first-before}
 use Rattle.shape.specs.Dimensions.{first_pair}
-use Rattle.shape.specs.declared.dimensions.Pair.{Pair}
-use Rattle.shape.specs.declared.dimensions.Pair.TheVariants.{At, Nowhere}
+use Rattle.offset_table.proofs.Walks.{position-first}
 use Rattle.offset_table.specs.Table.{is_outside, first_outside, Found, sound, outside, shared, pair_found, found_in, AllInside, FirstOutside, same_cell, FirstShared}
 
 module _ (xs : List ℕ) (padded : ℕ) where
@@ -50,20 +52,39 @@ module _ (xs : List ℕ) (padded : ℕ) where
   unfolding found_in
   found-pair h = rw (le-ltb (first_outside xs padded) (length xs) h)
 
+  -- the first place of an offset outside, as std's word has it
+  placed : position_or_len (leb padded) xs ≡ first_outside xs padded
+  unfolding first_outside
+  placed = position-first (leb padded) 0 xs
+
+  pub found-some : (k : ℕ) → position (leb padded) xs ≡ Some k → found_in xs padded ≡ outside k
+  found-some k e =
+      let t = position-Some (leb padded) xs k 0 e in
+      let f : FirstOutside xs padded k = record { inside = t.0; past = leb-true padded _ t.1; none_before = λ i l. leb-false padded _ (t.2 i l) } in
+      let q = outside-is k f in
+      found-outside (omega (arith, t.0)) ∙ ap outside q
+
+  pub found-none : position (leb padded) xs ≡ None → found_in xs padded ≡ pair_found (first_pair xs)
+  found-none e = found-pair (omega (arith, placed, go (ltb (position_or_len (leb padded) xs) (length xs)) refl e))
+    where
+      go : (b : Bool) → ltb (position_or_len (leb padded) xs) (length xs) ≡ b → cond b (Some (position_or_len (leb padded) xs)) None ≡ None → length xs ≤ position_or_len (leb padded) xs
+      go true q z = let y : ◌≡◌ {A = ℕ} 0 1 = cc in absurd (omega arith)
+      go false q z = ltb-false _ _ q
+
   -- what was found says how the search went
   pub data Went : Found → Type 0 where
     out : first_outside xs padded < length xs → Went (outside (first_outside xs padded))
-    pair : length xs ≤ first_outside xs padded → (e l : ℕ) → first_pair xs ≡ At e l → Went (shared e l)
-    clean : length xs ≤ first_outside xs padded → first_pair xs ≡ Nowhere → Went sound
+    pair : length xs ≤ first_outside xs padded → (e l : ℕ) → first_pair xs ≡ Some (e, l) → Went (shared e l)
+    clean : length xs ≤ first_outside xs padded → first_pair xs ≡ None → Went sound
 
   pub went : Went (found_in xs padded)
   unfolding found_in
   went = go (ltb (first_outside xs padded) (length xs)) refl (first_pair xs) refl
     where
-      go : (b : Bool) → ltb (first_outside xs padded) (length xs) ≡ b → (p : Pair) → first_pair xs ≡ p → Went (cond b (outside (first_outside xs padded)) (pair_found p))
+      go : (b : Bool) → ltb (first_outside xs padded) (length xs) ≡ b → (p : Option (ℕ × ℕ)) → first_pair xs ≡ p → Went (cond b (outside (first_outside xs padded)) (pair_found p))
       go true e p q = out (ltb-true (first_outside xs padded) (length xs) e)
-      go false e Nowhere q = clean (ltb-false (first_outside xs padded) (length xs) e) q
-      go false e (At i k) q = pair (ltb-false (first_outside xs padded) (length xs) e) i k q
+      go false e None q = clean (ltb-false (first_outside xs padded) (length xs) e) q
+      go false e (Some (i, k)) q = pair (ltb-false (first_outside xs padded) (length xs) e) i k q
 
 -- the earlier element of the first pair that shares a cell is the only one before the later
 pub only-earlier : (xs : List ℕ) (e l i : ℕ) → FirstShared xs e l → i < l → get_or xs i 0 ≡ get_or xs l 0 → i ≡ e

@@ -1,3 +1,4 @@
+pub mod Walks
 pub mod Found
 pub mod Rules
 pub mod Makers

@@ -1,26 +1,30 @@
 -- Laws of the question's answer: a broken rule, the first layout that makes the table, or 12. Assumes nothing.
-use mathlib.Core.Path.{◌≡◌, sym, ap, ◌∙◌}
-use mathlib.Core.Bool.{Bool, true, false}
+use Rattle.std.specs.Prelude.{Err, Some, None, position, ok_or}
+use mathlib.Core.Path.{◌≡◌, refl, sym, ap, ap₂, ◌∙◌}
+use mathlib.Core.Bool.{Bool, true, false, cond}
 use mathlib.Core.Logic.{inl, ⊎_elim}
 use mathlib.Core.List.{List, [], ◌∷◌}
 use Prim.Native.Nat.{ℕ, ◌<◌, ◌≤◌}
 use native.Mathlib.Omega.{arith}
 use native.Mathlib.Nat.{eq-or-lt_of_le}
-use lib.ListN.{get_or}
-use borrow.Author.Tests.{lt-ltb, le-ltb}
+use lib.Dec.{ltb}
+use lib.ListN.{length, get_or, take}
+use borrow.Author.Tests.{lt-ltb, le-ltb, ltb-true, ltb-false}
+use Rattle.std.proofs.lemmas.List.{length-take-le}
 use Rattle.radix.proofs.Lists.{le-or-lt}
 use Rattle.radix.proofs.Tests.{first-true, first-before}
 use Rattle.refusal.specs.Number.{Answer, done, refusal}
 use Rattle.refusal.specs.Judge.{judge}
 use Rattle.refusal.specs.declared.Refusal.{Refusal}
 use Rattle.refusal.specs.declared.Refusal.TheVariants.{NoLayout}
-use Rattle.refusal.specs.declared.Verdict.TheVariants.{Refused}
 use Rattle.refusal.proofs.Judged.{after-done, after-refused}
 use Rattle.shape.specs.declared.Shape.{Shape}
+use Rattle.layout.specs.Layout.{blank_layout}
 use Rattle.layout.specs.declared.Layout.{Layout}
 use Rattle.offset_table.specs.Makes.{is_maker, Makes, layout_at, first_maker, FirstMaker, NoMaker}
-use Rattle.offset_table.specs.Answers.{question_rules, breaks_no_rule, maker_rule, layout_named}
+use Rattle.offset_table.specs.Answers.{question_rules, breaks_no_rule, named_answer, maker_rule, layout_named}
 use Rattle.offset_table.proofs.Rules.{unbroken}
+use Rattle.offset_table.proofs.Walks.{position-taken}
 use Rattle.offset_table.proofs.Makers.{maker-is}
 
 module _ (s : Shape) (xs : List ℕ) (padded : ℕ) (ys : List Layout) (count : ℕ) where
@@ -30,7 +34,7 @@ module _ (s : Shape) (xs : List ℕ) (padded : ℕ) (ys : List Layout) (count : 
   abbrev maker : ℕ
   maker = first_maker s xs padded ys count
 
-  pub named-refused : (r : Refusal) → judge (question_rules s xs padded ys count) ≡ Refused r → layout_named s xs padded ys count ≡ refusal (0 ∷ []) r
+  pub named-refused : (r : Refusal) → judge (question_rules s xs padded ys count) ≡ Err r → layout_named s xs padded ys count ≡ refusal (0 ∷ []) r
   unfolding layout_named
   named-refused r e = rw (after-refused (question_rules s xs padded ys count) (maker_rule s xs padded ys count ∷ []) r e)
 
@@ -42,6 +46,17 @@ module _ (s : Shape) (xs : List ℕ) (padded : ℕ) (ys : List Layout) (count : 
     pub named-missed : count ≤ maker → layout_named s xs padded ys count ≡ refusal (0 ∷ []) NoLayout
     unfolding layout_named
     named-missed h = rw (after-done (question_rules s xs padded ys count) (maker_rule s xs padded ys count ∷ []) e, le-ltb maker count h)
+
+    -- the place that std's word has, as an answer
+    pub named-place : count ≤ length ys → named_answer (ok_or (position (is_maker s xs padded) (take count ys)) NoLayout) ≡ layout_named s xs padded ys count
+    unfolding first_maker
+    named-place h =
+        ap₂ (λ (m n : ℕ). named_answer (ok_or (cond (ltb m n) (Some m) None) NoLayout)) (position-taken (is_maker s xs padded) blank_layout count ys h) (length-take-le count ys h)
+        ∙ go (ltb maker count) refl
+      where
+        go : (b : Bool) → ltb maker count ≡ b → named_answer (ok_or (cond b (Some maker) None) NoLayout) ≡ layout_named s xs padded ys count
+        go true q = sym (named-found (ltb-true _ _ q))
+        go false q = sym (named-missed (ltb-false _ _ q))
 
   -- none before the first makes the table, and that one does
   not-maker : (i : ℕ) → test i ≡ false → Makes s xs padded (layout_at ys i) → ⊥

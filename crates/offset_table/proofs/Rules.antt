@@ -1,4 +1,5 @@
 -- What the rules of the question give where none is broken, and what keeps them. Assumes nothing.
+use Rattle.std.specs.Prelude.{Ok}
 use mathlib.Core.Path.{◌≡◌, refl}
 use mathlib.Core.Bool.{Bool, true, false, ◌&&◌}
 use mathlib.Core.Logic.{◌⊎◌, ⊎_elim}
@@ -13,7 +14,6 @@ use Rattle.radix.proofs.Tests.{and-true, and_left, and_right, every-all, every-a
 use Rattle.refusal.specs.Number.{answered}
 use Rattle.refusal.specs.Judge.{Rule, rule, judge}
 use Rattle.refusal.specs.declared.Refusal.TheVariants.{ShapeLimits, Attribute, LayoutRule, PaddedSize, NoLayout}
-use Rattle.refusal.specs.declared.Verdict.TheVariants.{Done}
 use Rattle.refusal.proofs.Judged.{kept, rest}
 use Rattle.shape.specs.Shape.{count_of, good_shape}
 use Rattle.shape.specs.declared.Shape.{Shape}
@@ -28,7 +28,7 @@ use Rattle.offset_table.specs.Answers.{max_elements, max_listed, is_table, good_
 pub record Asked (s : Shape) (xs : List ℕ) (ys : List Layout) (count : ℕ) : Type 0 where
   pub table : length xs ≡ count_of s
   pub few : count ≤ max_listed
-  pub each : (i : ℕ) → i < count → judge (layout_rules s (layout_at ys i)) ≡ Done
+  pub each : (i : ℕ) → i < count → judge (layout_rules s (layout_at ys i)) ≡ Ok tt
 
 pub question-few : (s : Shape) (xs : List ℕ) (padded count : ℕ) → good_question s xs padded count ≡ true → count ≤ max_listed
 unfolding good_question
@@ -67,7 +67,7 @@ module _ (s : Shape) (xs : List ℕ) (padded : ℕ) (ys : List Layout) (count : 
       number : (a b c d e : Bool) → ℕ
       number a b c d e = (answered (0 ∷ []) (judge (four a b c d ++ (rule e NoLayout ∷ []))) (first_maker s xs padded ys count ∷ [])).number
 
-      go : (a b c d e : Bool) → ((number a b c d e ≡ 0) ⊎ (number a b c d e ≡ 12)) → judge (four a b c d) ≡ Done
+      go : (a b c d e : Bool) → ((number a b c d e ≡ 0) ⊎ (number a b c d e ≡ 12)) → judge (four a b c d) ≡ Ok tt
       go true true true true e h = refl
       go false b c d e h = ⊎_elim (λ z. absurd (omega arith)) (λ z. absurd (omega arith)) h
       go true false c d e h = ⊎_elim (λ z. absurd (omega arith)) (λ z. absurd (omega arith)) h
@@ -75,7 +75,7 @@ module _ (s : Shape) (xs : List ℕ) (padded : ℕ) (ys : List Layout) (count : 
       go true true true false e h = ⊎_elim (λ z. absurd (omega arith)) (λ z. absurd (omega arith)) h
 
 -- a sound table of the shape, asked with 1 to 64 layouts that are judged done, breaks no rule
-module _ (s : Shape) (ys : List Layout) (count : ℕ) (each : (k : ℕ) → k < count → judge (layout_rules s (layout_at ys k)) ≡ Done) where
+module _ (s : Shape) (ys : List Layout) (count : ℕ) (each : (k : ℕ) → k < count → judge (layout_rules s (layout_at ys k)) ≡ Ok tt) where
   kept-all : layouts_kept s ys count ≡ true
   unfolding layouts_kept
   kept-all = every-all _ count (λ k b. done-layout s (layout_at ys k) (each k b))

@@ -1,4 +1,5 @@
 -- The theorems on tables of offsets: what is found in one, and which layout of a list makes it. Assumes nothing.
+use Rattle.std.specs.Prelude.{Ok, Err}
 use mathlib.Core.Path.{◌≡◌, ap, ◌∙◌}
 use mathlib.Core.Logic.{◌↔◌, inl, inr}
 use mathlib.Core.List.{List, [], ◌∷◌}
@@ -12,7 +13,6 @@ use Rattle.refusal.specs.Number.{Answer, done, refusal}
 use Rattle.refusal.specs.Judge.{judge}
 use Rattle.refusal.specs.declared.Refusal.{Refusal}
 use Rattle.refusal.specs.declared.Refusal.TheVariants.{NoLayout}
-use Rattle.refusal.specs.declared.Verdict.TheVariants.{Done, Refused}
 use Rattle.shape.specs.Shape.{max_rank, count_of}
 use Rattle.shape.specs.declared.Shape.{Shape}
 use Rattle.shape.proofs.Theorems.{pair-exactly, pair-nowhere}
@@ -81,7 +81,7 @@ module _ (s : Shape) (xs : List ℕ) (padded : ℕ) (ys : List Layout) (count : 
   -- Where one of the rules 1 to 4 is broken, the answer is the refusal of the first.
   pub rule-refused :
       (r : Refusal) →
-      judge (question_rules s xs padded ys count) ≡ Refused r →
+      judge (question_rules s xs padded ys count) ≡ Err r →
       layout_named s xs padded ys count ≡ refusal (0 ∷ []) r
   rule-refused = named-refused s xs padded ys count
 
@@ -124,7 +124,7 @@ past-counts-alter-nothing = named-agree
 -- ---- the tables of our own layouts
 
 module _ (s : Shape) (l : Layout) where
-  module _ (six : length s.sizes ≡ max_rank) (arrays : Arrays l) (e : judge (layout_rules s l) ≡ Done) where
+  module _ (six : length s.sizes ≡ max_rank) (arrays : Arrays l) (e : judge (layout_rules s l) ≡ Ok tt) where
     -- The table of an accepted shape and layout is sound.
     pub own-sound : found_in (table_of s l) (padded_of s l) ≡ sound
     own-sound =
@@ -143,7 +143,7 @@ module _ (s : Shape) (l : Layout) where
         (ys : List Layout) (count i : ℕ) →
         count_of s ≤ max_elements →
         count ≤ max_listed →
-        ((k : ℕ) → k < count → judge (layout_rules s (layout_at ys k)) ≡ Done) →
+        ((k : ℕ) → k < count → judge (layout_rules s (layout_at ys k)) ≡ Ok tt) →
         i < count →
         layout_at ys i ≡ l →
         (first_maker s (table_of s l) (padded_of s l) ys count ≤ i)

@@ -1,20 +1,17 @@
 -- What the calls on tables of offsets answer: the rules in the order of their numbers, and the values. Assumes nothing.
-use Rattle.std.specs.Prelude.{ℕ, ◌≡◌, Bool, ◌&&◌, List, [], ◌∷◌, ◌++◌, ltb, leb, eqb, length}
+use Rattle.std.specs.Prelude.{ℕ, ◌≡◌, Bool, ◌&&◌, List, [], ◌∷◌, ◌++◌, ltb, leb, eqb, length, Result, Ok, Err}
 use Rattle.radix.specs.Radix.{max_count, every}
 use Rattle.refusal.specs.Number.{Answer, done, refusal, answered}
 use Rattle.refusal.specs.Judge.{Rule, rule, judge}
+use Rattle.refusal.specs.declared.Refusal.{Refusal}
 use Rattle.refusal.specs.declared.Refusal.TheVariants.{ShapeLimits, Attribute, LayoutRule, PaddedSize, NoLayout}
-use Rattle.refusal.specs.declared.Verdict.TheVariants.{Done}
 use Rattle.shape.specs.Shape.{count_of, good_shape}
 use Rattle.shape.specs.declared.Shape.{Shape}
 use Rattle.layout.specs.Layout.{good_layout, padded_of}
 use Rattle.layout.specs.declared.Layout.{Layout}
+use Rattle.offset_table.specs.declared.Finding.{Finding}
 use Rattle.offset_table.specs.Table.{Found, sound, outside, shared, found_in, is_sound, found_of}
 use Rattle.offset_table.specs.Makes.{layout_at, first_maker}
-use Rattle.offset_table.specs.declared.Judged.{Judged}
-use Rattle.offset_table.specs.declared.Judged.TheVariants as judged
-use Rattle.offset_table.specs.declared.Named.{Named}
-use Rattle.offset_table.specs.declared.Named.TheVariants as named
 
 -- the most elements of a table, and layouts of a list
 abbrev pub max_elements : ℕ
@@ -32,9 +29,9 @@ found_values (shared e l) = 2 ∷ e ∷ l ∷ []
 abbrev pub zero_found : List ℕ
 zero_found = 0 ∷ 0 ∷ 0 ∷ []
 
-abbrev pub judged_answer : Judged → Answer ℕ
-judged_answer (judged.Found f) = done (found_values (found_of f))
-judged_answer (judged.Refused r) = refusal zero_found r
+abbrev pub judged_answer : Result Finding Refusal → Answer ℕ
+judged_answer (Ok f) = done (found_values (found_of f))
+judged_answer (Err r) = refusal zero_found r
 
 -- at most 4,096 elements, and one offset for each
 unfoldable pub is_table : Shape → List ℕ → Bool
@@ -51,9 +48,9 @@ unfoldable pub table_judged : Shape → List ℕ → ℕ → Answer ℕ
 table_judged s xs padded = answered zero_found (judge (table_rules s xs padded)) (found_values (found_in xs padded))
 
 -- which layout of a list makes a table: its place
-abbrev pub named_answer : Named → Answer ℕ
-named_answer (named.At i) = done (i ∷ [])
-named_answer (named.Refused r) = refusal (0 ∷ []) r
+abbrev pub named_answer : Result ℕ Refusal → Answer ℕ
+named_answer (Ok i) = done (i ∷ [])
+named_answer (Err r) = refusal (0 ∷ []) r
 
 -- a table of the shape, 1 to 64 layouts, and the table is sound, whatever its padded size
 unfoldable pub good_question : Shape → List ℕ → ℕ → ℕ → Bool
@@ -79,7 +76,7 @@ question_rules s xs padded ys count =
 
 -- the question breaks none of them
 abbrev pub breaks_no_rule : Shape → List ℕ → ℕ → List Layout → ℕ → Type 0
-breaks_no_rule s xs padded ys count = judge (question_rules s xs padded ys count) ≡ Done
+breaks_no_rule s xs padded ys count = judge (question_rules s xs padded ys count) ≡ Ok tt
 
 -- rule 12: a layout of the list makes the table
 abbrev pub maker_rule : Shape → List ℕ → ℕ → List Layout → ℕ → Rule

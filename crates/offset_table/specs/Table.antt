@@ -1,11 +1,9 @@
 -- Tables of offsets, one for each element in row-major order, with a padded size: what is found in one. Assumes
 -- nothing.
-use Rattle.std.specs.Prelude.{ℕ, ◌<◌, ◌≤◌, ◌≡◌, Bool, true, false, cond, List, ltb, leb, eqb, length, get_or}
+use Rattle.std.specs.Prelude.{ℕ, ◌<◌, ◌≤◌, ◌≡◌, Bool, true, false, cond, List, ltb, leb, eqb, length, get_or, Option, Some, None}
 use Rattle.radix.specs.Radix.{first}
 use Rattle.shape.specs.Repeats.{FirstRepeat}
 use Rattle.shape.specs.Dimensions.{first_pair}
-use Rattle.shape.specs.declared.dimensions.Pair.{Pair}
-use Rattle.shape.specs.declared.dimensions.Pair.TheVariants.{At, Nowhere}
 use Rattle.offset_table.specs.declared.Finding.{Finding}
 use Rattle.offset_table.specs.declared.Finding.TheVariants.{Sound, Outside, Shared}
 
@@ -25,9 +23,9 @@ pub data Found : Type 0 where
   shared : ℕ → ℕ → Found
 
 -- the first pair of elements with the same offset, the later one searched from the front, shares a cell
-abbrev pub pair_found : Pair → Found
-pair_found Nowhere = sound
-pair_found (At e l) = shared e l
+abbrev pub pair_found : Option (ℕ × ℕ) → Found
+pair_found None = sound
+pair_found (Some (e, l)) = shared e l
 
 -- the first offset outside, sought over the whole table; else the first shared cell
 unfoldable pub found_in : List ℕ → ℕ → Found

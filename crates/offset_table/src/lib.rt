@@ -22,17 +22,3 @@ pub enum Finding {
     Outside(Element),
     Shared(Element, Element),
 }
-
-// The answer of judge_table.
-#[derive(Clone, Copy)]
-pub enum Judged {
-    Found(Finding),
-    Refused(Refusal),
-}
-
-// The answer of layout_of_table: a place in the list.
-#[derive(Clone, Copy)]
-pub enum Named {
-    At(usize),
-    Refused(Refusal),
-}

@@ -20,7 +20,7 @@ use Rattle.expression.specs.declared.One.TheVariants.{Product, Floordiv, Mod}
 use Rattle.folding.specs.Map.{Constraint}
 use Rattle.encoding.specs.Postfix.{variable_of, postfix}
 use Rattle.map_builder.specs.Raw.{Raw, up_to, whole_of, encoded}
-use Rattle.map_builder.specs.Draft.{empty_draft, push_floordiv, push_mod, push_terms, push_linear, end_result, steps, add_size}
+use Rattle.map_builder.specs.Draft.{empty_draft, push_floordiv, push_mod, push_terms, push_linear, steps, add_size}
 use Rattle.map_builder.specs.declared.Draft.{Draft}
 use Rattle.map_builder.proofs.Drafted.{Drafted, drafted-encoded, with_result, node-drafted, result-drafted}
 use Rattle.map_builder.proofs.Steps.{Grown, bounds-drafted, sizes-whole}
@@ -33,16 +33,6 @@ use Rattle.operation_builder.specs.ReshapeDraft.{add_digit, add_digits}
 module _ (src : List ℕ) (after n : ℕ) (x l q r : Draft) (el : l ≡ push_linear src x) (eq : q ≡ push_floordiv l after) where
   divided : q ≡ push_floordiv (push_linear src x) after
   divided = eq ∙ ap (λ (u : Draft). push_floordiv u after) el
-
-  pub digit-first : (first : Bool) → first ≡ true → r ≡ end_result q → r ≡ add_digit src first after n x
-  digit-first first f e =
-      e ∙ ap end_result divided
-      ∙ sym (ap (λ (b : Bool). end_result (cond b (push_floordiv (push_linear src x) after) (push_mod (push_floordiv (push_linear src x) after) n))) f)
-
-  pub digit-next : (first : Bool) (m : Draft) → first ≡ false → m ≡ push_mod q n → r ≡ end_result m → r ≡ add_digit src first after n x
-  digit-next first m f em e =
-      e ∙ ap end_result (em ∙ ap (λ (u : Draft). push_mod u n) divided)
-      ∙ sym (ap (λ (b : Bool). end_result (cond b (push_floordiv (push_linear src x) after) (push_mod (push_floordiv (push_linear src x) after) n))) f)
 
 -- a coordinate more: one result, few nodes, no tree under way
 pub digit-grown : (src : List ℕ) (first : Bool) (after n : ℕ) (x y : Draft) (m : ℕ) → length src ≤ m → 0 < m → y ≡ add_digit src first after n x

@@ -5,7 +5,7 @@ use mathlib.Core.List.{List, [], ◌∷◌, ◌++◌}
 use Prim.Native.Nat.{ℕ, suc, ◌+◌, ◌-◌, ◌<◌, ◌≤◌}
 use native.Mathlib.Omega.{arith}
 use native.Mathlib.Numerals.{add-one}
-use borrow.Author.Tests.{ltb-true, lt-ltb, le-ltb}
+use borrow.Author.Tests.{ltb-true}
 use lib.IntN.{pos}
 use lib.ListN.{length, get_or, take, drop, set, replicate, length-map, length-append}
 use lib.Seq.{take_at}
@@ -42,20 +42,6 @@ module _ (ns l : List ℕ) where
           → Grows x (cond b (end_result (push_variable x (place j l))) (end_result (push_variable (add_range x (pos 0) (pos (get_or ns j 0 - 1))) (max_variables + x.map.ranges)))) 1
       go true = record { dims = omega arith; ranges = omega arith; results = omega arith; constraints = omega arith; nodes = omega arith; under = λ u. refl }
       go false = record { dims = omega arith; ranges = omega arith; results = omega arith; constraints = omega arith; nodes = omega arith; under = λ u. refl }
-
-  abbrev coordinate_by : ℕ → Draft → Bool → Draft
-  coordinate_by j x b =
-      cond b (end_result (push_variable x (place j l))) (end_result (push_variable (add_range x (pos 0) (pos (get_or ns j 0 - 1))) (max_variables + x.map.ranges)))
-
-  pub coordinate-listed : (j : ℕ) (x y z : Draft) (p : ℕ) → p ≡ place j l → p < length l → y ≡ push_variable x p → z ≡ end_result y → z ≡ add_coordinate ns l j x
-  coordinate-listed j x y z p e h f g =
-      g ∙ ap end_result (f ∙ ap (push_variable x) e)
-      ∙ sym (ap (coordinate_by j x) (lt-ltb (place j l) (length l) (omega (arith, e, h))))
-
-  pub coordinate-other : (j : ℕ) (x u y z : Draft) (p : ℕ) → p ≡ place j l → length l ≤ p → u ≡ add_range x (pos 0) (pos (get_or ns j 0 - 1)) → y ≡ push_variable u (max_variables + x.map.ranges) → z ≡ end_result y → z ≡ add_coordinate ns l j x
-  coordinate-other j x u y z p e h f g k =
-      k ∙ ap end_result (g ∙ ap (λ (t : Draft). push_variable t (max_variables + x.map.ranges)) f)
-      ∙ sym (ap (coordinate_by j x) (le-ltb (place j l) (length l) (omega (arith, e, h))))
 
   abbrev chosen : ℕ → Range
   chosen k = up_to (get_or ns (get_or l k 0) 0)
@@ -176,13 +162,3 @@ module _ (l ns : List ℕ) where
 pub front-is : (n : ℕ) (xs a : List ℕ) (c : ℕ) → a ≡ filled n 0 xs → c ≡ length xs → length xs ≤ n → take c a ≡ xs
 front-is n xs a c e f h =
     ap₂ take f (e ∙ filled_is n 0 xs h) ∙ take_at xs (drop (length xs) (replicate n 0)) (length xs) refl
-
-module _ (l : List ℕ) (j size : ℕ) (k : Kept) where
-  abbrev kept_by : Bool → Kept
-  kept_by b = cond b k (record { count = k.count + 1; dims = set k.dims k.count j; sizes = set k.sizes k.count size })
-
-  pub keep-listed : (p : ℕ) → p ≡ place j l → p < length l → k ≡ keep_next l j size k
-  keep-listed p e h = sym (ap kept_by (lt-ltb (place j l) (length l) (omega (arith, e, h))))
-
-  pub keep-other : (p : ℕ) → p ≡ place j l → length l ≤ p → kept_by false ≡ keep_next l j size k
-  keep-other p e h = sym (ap kept_by (le-ltb (place j l) (length l) (omega (arith, e, h))))

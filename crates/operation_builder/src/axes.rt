@@ -17,10 +17,7 @@ use shape::Shape;
 pub fn entry(list: &[u64], k: usize) -> u64
     ensures { result ≡ get_or list.now k 0 }
 {
-    if k < list.len() {
-        return list[k];
-    }
-    0
+    if k < list.len() { list[k] } else { 0 }
 }
 
 // What the operation does to dimension k.
@@ -28,24 +25,22 @@ fn axis_at(change: Change, sizes: &[u64], a: &[u64], b: &[u64], c: &[u64], k: us
     ensures { result ≡ axis_at change sizes.now a.now b.now c.now k }
 {
     match change {
-        Change::Kept => {
-            return Axis::Keep(entry(sizes, k));
-        }
+        Change::Kept => Axis::Keep(entry(sizes, k)),
         Change::Reversed => {
             if shape::place_of(a, k as u64) < a.len() {
-                return Axis::Flip(entry(sizes, k));
+                Axis::Flip(entry(sizes, k))
+            } else {
+                Axis::Keep(entry(sizes, k))
             }
-            return Axis::Keep(entry(sizes, k));
         }
         Change::Joined(dimension, by) => {
             if k as u64 == dimension {
-                return Axis::Shift(by, entry(sizes, k));
+                Axis::Shift(by, entry(sizes, k))
+            } else {
+                Axis::Keep(entry(sizes, k))
             }
-            return Axis::Keep(entry(sizes, k));
         }
-        Change::Sliced => {
-            return Axis::Cut(entry(a, k), entry(b, k), entry(c, k));
-        }
+        Change::Sliced => Axis::Cut(entry(a, k), entry(b, k), entry(c, k)),
     }
 }
 
@@ -54,24 +49,10 @@ fn low_of(out: bool, axis: Axis) -> u64
     ensures { pos result ≡ (side_of out axis).bound.lo }
 {
     match axis {
-        Axis::Keep(_) => {
-            return 0;
-        }
-        Axis::Flip(_) => {
-            return 0;
-        }
-        Axis::Cut(start, _, _) => {
-            if out {
-                return 0;
-            }
-            return start;
-        }
-        Axis::Shift(by, _) => {
-            if out {
-                return by;
-            }
-            return 0;
-        }
+        Axis::Keep(_) => 0,
+        Axis::Flip(_) => 0,
+        Axis::Cut(start, _, _) => if out { 0 } else { start },
+        Axis::Shift(by, _) => if out { by } else { 0 },
     }
 }
 
@@ -81,25 +62,13 @@ fn high_of(out: bool, axis: Axis) -> u64
     ensures { (pos result ≡ (side_of out axis).bound.hi) × (result ≤ max_count) }
 {
     match axis {
-        Axis::Keep(size) => {
-            return size - 1;
-        }
-        Axis::Flip(size) => {
-            return size - 1;
-        }
+        Axis::Keep(size) => size - 1,
+        Axis::Flip(size) => size - 1,
         Axis::Cut(start, limit, stride) => {
             let last = (limit - 1 - start) / stride;
-            if out {
-                return last;
-            }
-            return start + last * stride;
+            if out { last } else { start + last * stride }
         }
-        Axis::Shift(by, size) => {
-            if out {
-                return by + (size - 1);
-            }
-            return size - 1;
-        }
+        Axis::Shift(by, size) => if out { by + (size - 1) } else { size - 1 },
     }
 }
 
@@ -109,24 +78,21 @@ fn push_axis(d: Draft, out: bool, axis: Axis, k: usize) -> Draft
     ensures { result ≡ push_axis out axis k d }
 {
     match axis {
-        Axis::Keep(_) => {
-            return inner::push_variable(d, k);
-        }
-        Axis::Flip(size) => {
-            return inner::push_affine(d, k, -1, inner::natural(size - 1));
-        }
+        Axis::Keep(_) => inner::push_variable(d, k),
+        Axis::Flip(size) => inner::push_affine(d, k, -1, inner::natural(size - 1)),
         Axis::Cut(start, _, stride) => {
             if out {
                 return inner::push_affine(d, k, inner::natural(stride), inner::natural(start));
             }
             let x = inner::push_shifted(d, k, inner::negative(start));
-            return inner::push_floordiv(x, stride);
+            inner::push_floordiv(x, stride)
         }
         Axis::Shift(by, _) => {
             if out {
-                return inner::push_shifted(d, k, inner::negative(by));
+                inner::push_shifted(d, k, inner::negative(by))
+            } else {
+                inner::push_shifted(d, k, inner::natural(by))
             }
-            return inner::push_shifted(d, k, inner::natural(by));
         }
     }
 }
@@ -149,23 +115,17 @@ fn add_test(d: Draft, out: bool, axis: Axis, k: usize) -> Draft
     ensures { result ≡ add_test out axis k d }
 {
     match axis {
-        Axis::Keep(_) => {
-            return d;
-        }
-        Axis::Flip(_) => {
-            return d;
-        }
+        Axis::Keep(_) => d,
+        Axis::Flip(_) => d,
         Axis::Cut(start, _, stride) => {
             if out {
                 return d;
             }
             let x = inner::push_shifted(d, k, inner::negative(start));
             let y = inner::push_mod(x, stride);
-            return inner::end_constraint(y, 0, 0);
+            inner::end_constraint(y, 0, 0)
         }
-        Axis::Shift(_, _) => {
-            return d;
-        }
+        Axis::Shift(_, _) => d,
     }
 }
 
@@ -183,10 +143,8 @@ fn add_axes(
     ensures { result ≡ steps (add_axes out change sizes.now a.now b.now c.now) (length sizes.now) d }
 {
     let mut x = d;
-    let mut i: usize = 0;
-    while i < sizes.len() {
+    for i in 0..sizes.len() {
         x = add_axis(x, out, axis_at(change, sizes, a, b, c, i), i);
-        i += 1;
     }
     x
 }
@@ -205,10 +163,8 @@ fn add_tests(
     ensures { result ≡ steps (add_tests out change sizes.now a.now b.now c.now) (length sizes.now) d }
 {
     let mut x = d;
-    let mut i: usize = 0;
-    while i < sizes.len() {
+    for i in 0..sizes.len() {
         x = add_test(x, out, axis_at(change, sizes, a, b, c, i), i);
-        i += 1;
     }
     x
 }
@@ -242,9 +198,7 @@ pub fn shape_axes(
     requires { (good_shape shape ≡ true) × AllReady change (sizes_of shape) a.now b.now c.now }
     ensures { result ≡ encoded (axes_raw out change (sizes_of shape) a.now b.now c.now) }
 {
-    let rank = shape.rank;
-    let sizes = shape.sizes;
-    axes_map(out, change, &sizes[..rank], a, b, c)
+    axes_map(out, change, &shape.sizes[..shape.rank], a, b, c)
 }
 
 // The map over a shape whose operation has no list.
@@ -252,7 +206,5 @@ pub fn plain_axes(out: bool, change: Change, shape: Shape) -> IndexingMap
     requires { (good_shape shape ≡ true) × AllReady change (sizes_of shape) [] [] [] }
     ensures { result ≡ encoded (axes_raw out change (sizes_of shape) [] [] []) }
 {
-    let sizes = shape.sizes;
-    let none = &sizes[..0];
-    shape_axes(out, change, shape, none, none, none)
+    shape_axes(out, change, shape, &[], &[], &[])
 }

@@ -29,12 +29,9 @@ fn add_digits(d: Draft, sizes: &[u64], others: &[u64]) -> Draft
     ensures { result ≡ add_digits sizes.now 0 others.now d }
 {
     let mut out = d;
-    let mut i: usize = 0;
-    while i < others.len() {
-        let next = i + 1;
-        let after = radix::product(&others[next..]);
-        out = add_digit(out, sizes, i == 0, after, others[i]);
-        i = next;
+    for (i, size) in others.iter().enumerate() {
+        let after = radix::product(&others[i + 1..]);
+        out = add_digit(out, sizes, i == 0, after, *size);
     }
     out
 }
@@ -54,9 +51,5 @@ pub fn shape_reshape(from: Shape, to: Shape) -> IndexingMap
     requires { (good_shape from ≡ true) × (good_shape to ≡ true) }
     ensures { result ≡ encoded (reshape_map (sizes_of from) (sizes_of to)) }
 {
-    let a = from.rank;
-    let x = from.sizes;
-    let b = to.rank;
-    let y = to.sizes;
-    reshape_map(&x[..a], &y[..b])
+    reshape_map(&from.sizes[..from.rank], &to.sizes[..to.rank])
 }

@@ -34,10 +34,8 @@ fn add_coordinates(d: Draft, sizes: &[u64], list: &[u64]) -> Draft
     ensures { result ≡ steps (add_coordinate sizes.now list.now) (length sizes.now) d }
 {
     let mut out = d;
-    let mut i: usize = 0;
-    while i < sizes.len() {
+    for i in 0..sizes.len() {
         out = add_coordinate(out, sizes, list, i);
-        i += 1;
     }
     out
 }
@@ -68,9 +66,10 @@ fn selection_map(up: bool, sizes: &[u64], list: &[u64]) -> IndexingMap
     ensures { result ≡ encoded (selection up list.now sizes.now) }
 {
     if up {
-        return spread_map(sizes, list);
+        spread_map(sizes, list)
+    } else {
+        select_map(sizes, list)
     }
-    select_map(sizes, list)
 }
 
 // The same over a shape.
@@ -78,9 +77,7 @@ pub fn shape_selection(up: bool, shape: Shape, list: &[u64]) -> IndexingMap
     requires { Chosen shape list.now }
     ensures { result ≡ encoded (selection up list.now (sizes_of shape)) }
 {
-    let rank = shape.rank;
-    let sizes = shape.sizes;
-    selection_map(up, &sizes[..rank], list)
+    selection_map(up, &shape.sizes[..shape.rank], list)
 }
 
 // Over a shape and the dimensions that a list leaves.
@@ -88,12 +85,8 @@ pub fn rest_selection(up: bool, shape: Shape, list: &[u64]) -> IndexingMap
     requires { good_shape shape ≡ true }
     ensures { result ≡ encoded (selection up (others list.now (rank_of shape)) (sizes_of shape)) }
 {
-    let rank = shape.rank;
-    let sizes = shape.sizes;
-    let kept = kept_of(&sizes[..rank], list);
-    let count = kept.count;
-    let dims = kept.dims;
-    shape_selection(up, shape, &dims[..count])
+    let kept = kept_of(&shape.sizes[..shape.rank], list);
+    shape_selection(up, shape, &kept.dims[..kept.count])
 }
 
 // No dimension of the shape that a list leaves.
@@ -101,13 +94,8 @@ pub fn none_selection(up: bool, shape: Shape, list: &[u64]) -> IndexingMap
     requires { good_shape shape ≡ true }
     ensures { result ≡ encoded (selection up [] (select (others list.now (rank_of shape)) (sizes_of shape))) }
 {
-    let rank = shape.rank;
-    let sizes = shape.sizes;
-    let kept = kept_of(&sizes[..rank], list);
-    let count = kept.count;
-    let left = kept.sizes;
-    let none = kept.dims;
-    selection_map(up, &left[..count], &none[..0])
+    let kept = kept_of(&shape.sizes[..shape.rank], list);
+    selection_map(up, &kept.sizes[..kept.count], &[])
 }
 
 // Dimension j with its size, unless it is listed.
@@ -140,10 +128,8 @@ fn kept_of(sizes: &[u64], list: &[u64]) -> Kept
         dims: [0u64; 6],
         sizes: [0u64; 6],
     };
-    let mut j: usize = 0;
-    while j < sizes.len() {
-        out = keep(out, list, j, sizes[j]);
-        j += 1;
+    for (j, size) in sizes.iter().enumerate() {
+        out = keep(out, list, j, *size);
     }
     out
 }

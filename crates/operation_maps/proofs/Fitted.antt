@@ -8,7 +8,6 @@ use native.Mathlib.Omega.{arith}
 use borrow.Author.Tests.{ltb-true}
 use lib.IntN.{pos, neg_ℤ, nat_abs}
 use lib.ListN.{length, get_or, length-append, length-map}
-use Rattle.integer.specs.Exact.{limit}
 use Rattle.radix.specs.Radix.{prod}
 use Rattle.radix.proofs.Pigeonhole.{at_most}
 use Rattle.expression.specs.Expression.{d, s, floordiv, modulo, Expr, node_count}

@@ -1,4 +1,5 @@
 -- The record of a map, and the folded record, name the pairs that the map names. Assumes nothing.
+use Rattle.std.specs.Prelude.{Ok}
 use mathlib.Core.Path.{◌≡◌, refl, sym, ap, ap₂, ◌∙◌, subst}
 use mathlib.Core.Logic.{◌↔◌}
 use mathlib.Core.Bool.{true}
@@ -9,7 +10,6 @@ use lib.IntN.{ℤ, pos}
 use lib.ListN.{length, get_or, length-append, length-map, get_or-append}
 use lib.Seq.{get_or-append-add}
 use Rattle.refusal.specs.Judge.{judge}
-use Rattle.refusal.specs.declared.Verdict.TheVariants.{Done}
 use Rattle.radix.proofs.Tests.{and_left, and_right}
 use Rattle.expression.specs.Expression.{Expr, Range, span, In, eval}
 use Rattle.expression.specs.Node.{max_variables}
@@ -201,7 +201,7 @@ domain-inside : (m : IndexingMap) (ds ss : List ℤ) → Domain m ds ss → in_b
 unfolding in_domain
 domain-inside m ds ss h = and_left (in_bounds m ds ss) _ (and_right (right_length m ds ss) _ ((domain-is m ds ss).1 h))
 
-module _ (m : IndexingMap) (h : judge (fold_rules m) ≡ Done) where
+module _ (m : IndexingMap) (h : judge (fold_rules m) ≡ Ok tt) where
   folded-values : (x v : List ℤ) → Domain m x v → listed (value_at (folded_map m) x v) (folded_map m).results ≡ listed (value_at m x v) m.results
   folded-values x v p =
       ap (listed (value_at (folded_map m) x v)) (same-counts m h).1.1.0

@@ -1,4 +1,5 @@
 -- A map before it is folded, with good bounds and light trees, is not refused by folding. Assumes nothing.
+use Rattle.std.specs.Prelude.{Ok}
 use mathlib.Core.Path.{◌≡◌, refl, ap, ap₂, ◌∙◌}
 use mathlib.Core.Bool.{Bool, true, false, cond, ◌&&◌}
 use mathlib.Core.List.{List, [], ◌∷◌}
@@ -13,7 +14,6 @@ use lib.Seq.{get_or-drop}
 use lib.Signed.{le_z}
 use Rattle.integer.specs.Exact.{limit}
 use Rattle.refusal.specs.Judge.{judge}
-use Rattle.refusal.specs.declared.Verdict.TheVariants.{Done}
 use Rattle.radix.specs.Radix.{max_size}
 use Rattle.radix.proofs.Tests.{and-true, and_left, and_right, every-all}
 use Rattle.expression.specs.Expression.{Kind, d, s, Expr, Range, span, small_ranges}
@@ -240,5 +240,5 @@ module _ (m : Raw) (w : Fits m) (h : Keeps m) where
       (made-constraints (length m.dims) (length m.ranges) lower upper m.results m.constraints w)
       ∙ le-leb (length (nodes_of (trees_of (fold_results β m.results) (fold_constraints β m.constraints)))) max_nodes few-nodes
 
-  pub not-refused : judge (fold_rules (encoded m)) ≡ Done
+  pub not-refused : judge (fold_rules (encoded m)) ≡ Ok tt
   not-refused = folds-done (encoded m) (record { accepted = record { formed = record { parts = parts; counts = counts }; ranges = ranges }; small = working; few = nodes })

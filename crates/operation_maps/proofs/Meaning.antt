@@ -1,4 +1,5 @@
 -- Both maps of every operation name its pairs, before folding. Assumes nothing.
+use Rattle.std.specs.Prelude.{Ok, Err}
 use mathlib.Core.Path.{◌≡◌, refl, sym, ap, subst}
 use mathlib.Core.Bool.{Bool, true, false, cond, ◌&&◌}
 use mathlib.Core.List.{List, [], ◌∷◌, ◌++◌}
@@ -13,7 +14,6 @@ use Rattle.radix.specs.Radix.{max_size, max_count, prod, is_within, Bounded}
 use Rattle.radix.proofs.Tests.{and_left, and_right, every-at, bounded_of}
 use Rattle.refusal.specs.Judge.{judge}
 use Rattle.refusal.specs.declared.Refusal.TheVariants.{ShapeLimits, Attribute}
-use Rattle.refusal.specs.declared.Verdict.TheVariants.{Done, Refused}
 use Rattle.refusal.proofs.Judged.{kept, rest}
 use Rattle.shape.specs.Shape.{max_rank, sizes_of, good_shape}
 use Rattle.shape.specs.Dimensions.{in_range, free}
@@ -72,11 +72,11 @@ pub no-choice : (n : ℕ) → Choice [] n
 no-choice n = record { inside = λ k h. absurd (omega arith); apart = λ i j g h q. absurd (omega arith) }
 
 -- another cause of number 2 refuses before a repeat does
-pub other-first : (l : List ℕ) → judge (list_rules true false l) ≡ Refused Attribute
+pub other-first : (l : List ℕ) → judge (list_rules true false l) ≡ Err Attribute
 other-first l = refl
 
 -- a list judged: the shapes, the other attributes and the list keep their rules
-pub list-good : (s a : Bool) (l : List ℕ) → judge (list_rules s a l) ≡ Done → (s ≡ true) × ((a ≡ true) × (free l ≡ true))
+pub list-good : (s a : Bool) (l : List ℕ) → judge (list_rules s a l) ≡ Ok tt → (s ≡ true) × ((a ≡ true) × (free l ≡ true))
 list-good s a l e =
     let f = rest s ShapeLimits _ e in
     (kept s ShapeLimits _ e, (kept a Attribute _ f, kept (free l) _ _ (rest a Attribute _ f)))
@@ -234,7 +234,7 @@ pub record Operand (count : ℕ) (held : List Shape) (dim j : ℕ) : Type 0 wher
   pub sizes : Limited (operand_sizes count held j)
   pub by : joined_before count held dim j ≤ max_size
 
-pub operand : (count : ℕ) (held : List Shape) (dim j : ℕ) → judge (operation_rules (Operation.concatenate count held dim j)) ≡ Done → Operand count held dim j
+pub operand : (count : ℕ) (held : List Shape) (dim j : ℕ) → judge (operation_rules (Operation.concatenate count held dim j)) ≡ Ok tt → Operand count held dim j
 operand count held dim j e =
     let good_at : ℕ → Bool = λ (k : ℕ). good_shape (get_or (operands count held) k no_shape) in
     let e1 = rest (good_operands count held) ShapeLimits _ e in
@@ -246,7 +246,7 @@ operand count held dim j e =
       by = omega (arith, joined-up count held dim j (omega (arith, t.asked)), joined_small count held dim t.dimension z);
     }
 
-pub right : (op : Operation) → judge (operation_rules op) ≡ Done → Right op
+pub right : (op : Operation) → judge (operation_rules op) ≡ Ok tt → Right op
 right (Operation.elementwise x) e =
     axes-right (kept_axes (sizes_of x)) (kept-dimensions (sizes_of x) (limited-of x (kept (good_shape x) ShapeLimits _ e))) (Operation.elementwise x) refl refl refl
 right (Operation.broadcast x y l) e =

@@ -1,4 +1,5 @@
 -- An operation whose own rules are kept is never refused by folding, either way: its rules alone decide. Assumes nothing.
+use Rattle.std.specs.Prelude.{Ok, Err}
 use mathlib.Core.Path.{◌≡◌, refl, sym, ◌∙◌}
 use mathlib.Core.Bool.{Bool, true, false, ◌&&◌, cond}
 use mathlib.Core.List.{List, [], ◌++◌}
@@ -9,8 +10,7 @@ use lib.Dec.{leb, ltb, eqb}
 use lib.ListN.{length, get_or}
 use Rattle.refusal.specs.Judge.{judge}
 use Rattle.refusal.specs.declared.Refusal.TheVariants.{ShapeLimits, Attribute}
-use Rattle.refusal.specs.declared.Verdict.{Verdict}
-use Rattle.refusal.specs.declared.Verdict.TheVariants.{Done, Refused}
+use Rattle.refusal.specs.Judge.{Verdict}
 use Rattle.refusal.proofs.Judged.{kept, rest, after-done, after-refused}
 use Rattle.radix.specs.Radix.{max_size, Bounded}
 use Rattle.radix.proofs.Tests.{and_left, and_right, every-at}
@@ -77,7 +77,7 @@ module _ (ns : List ℕ) (g : Limited ns) where
 abbrev Both : Operation → Type 0
 Both op = Keeps (output_to_input op) × Keeps (input_to_output op)
 
-keep-both : (op : Operation) → judge (operation_rules op) ≡ Done → Both op
+keep-both : (op : Operation) → judge (operation_rules op) ≡ Ok tt → Both op
 keep-both (Operation.elementwise x) e =
     let g = limited-of x (kept (good_shape x) ShapeLimits _ e) in
     axes-keep (λ (k : ℕ). Keep (get_or (sizes_of x) k 0)) (rank_of x) g.few (kept-sized (sizes_of x) g)
@@ -128,7 +128,7 @@ keep-both (Operation.reshape x y) e =
 -- ---- the rules of folding
 
 -- Neither map of an operation whose rules are kept breaks a rule of folding: 2, 7 or 8.
-pub folds-kept : (way : Way) (op : Operation) → judge (operation_rules op) ≡ Done → judge (fold_rules (encoded (raw_of way op))) ≡ Done
+pub folds-kept : (way : Way) (op : Operation) → judge (operation_rules op) ≡ Ok tt → judge (fold_rules (encoded (raw_of way op))) ≡ Ok tt
 folds-kept OutputToInput op e = not-refused (output_to_input op) (right op e).out-fits (keep-both op e).0
 folds-kept InputToOutput op e = not-refused (input_to_output op) (right op e).in-fits (keep-both op e).1
 
@@ -137,5 +137,5 @@ pub rules-alone : (way : Way) (op : Operation) → judge (operation_rules op ++ 
 rules-alone way op = go (judge (operation_rules op)) refl
   where
     go : (v : Verdict) → judge (operation_rules op) ≡ v → judge (operation_rules op ++ fold_rules (encoded (raw_of way op))) ≡ judge (operation_rules op)
-    go Done e = after-done (operation_rules op) (fold_rules (encoded (raw_of way op))) e ∙ folds-kept way op e ∙ sym e
-    go (Refused r) e = after-refused (operation_rules op) (fold_rules (encoded (raw_of way op))) r e ∙ sym e
+    go (Ok tt) e = after-done (operation_rules op) (fold_rules (encoded (raw_of way op))) e ∙ folds-kept way op e ∙ sym e
+    go (Err r) e = after-refused (operation_rules op) (fold_rules (encoded (raw_of way op))) r e ∙ sym e

@@ -1,4 +1,5 @@
 -- What the maps of the operations are, one theorem under each sentence. Assumes nothing.
+use Rattle.std.specs.Prelude.{Ok, Err}
 use mathlib.Core.Path.{◌≡◌, refl, sym, ap, ap₂, ◌∙◌, subst}
 use mathlib.Core.Logic.{◌↔◌}
 use mathlib.Core.Bool.{true, false}
@@ -10,8 +11,7 @@ use Rattle.refusal.specs.Number.{Answer, done, refusal, answered, verdict_answer
 use Rattle.refusal.specs.Judge.{Rule, judge}
 use Rattle.refusal.specs.declared.Refusal.{Refusal}
 use Rattle.refusal.specs.declared.Refusal.TheVariants.{Attribute, Repeat}
-use Rattle.refusal.specs.declared.Verdict.{Verdict}
-use Rattle.refusal.specs.declared.Verdict.TheVariants.{Done, Refused}
+use Rattle.refusal.specs.Judge.{Verdict}
 use Rattle.refusal.proofs.Judged.{after-done, before-done}
 use Rattle.shape.specs.Shape.{sizes_of}
 use Rattle.shape.specs.Dimensions.{free, earlier_place, later_place}
@@ -57,25 +57,25 @@ pub operation-number : (way : Way) (op : Operation) → (operation_answer way op
 operation-number way op = ap (λ (a : Answer IndexingMap). a.number) (by-rules way op) ∙ same (judge (operation_rules op)) ∙ rule-number op
   where
     same : (v : Verdict) → (answered (no_map ∷ []) v (folded_map (encoded (raw_of way op)) ∷ [])).number ≡ (verdict_answer v).number
-    same Done = refl
-    same (Refused r) = refl
+    same (Ok tt) = refl
+    same (Err r) = refl
 
 -- An operation whose rules are kept is never refused with 7 or 8: it answers its map, folded.
-pub never-refused : (way : Way) (op : Operation) → judge (operation_rules op) ≡ Done → operation_answer way op ≡ done (folded_map (encoded (raw_of way op)) ∷ [])
+pub never-refused : (way : Way) (op : Operation) → judge (operation_rules op) ≡ Ok tt → operation_answer way op ≡ done (folded_map (encoded (raw_of way op)) ∷ [])
 never-refused way op e = by-rules way op ∙ map-done (folded_map (encoded (raw_of way op))) (operation_rules op) e
 
 -- The number is 0 exactly where the operation's rules are kept.
-pub done-is : (way : Way) (op : Operation) → ((operation_answer way op).number ≡ 0) ↔ (judge (operation_rules op) ≡ Done)
+pub done-is : (way : Way) (op : Operation) → ((operation_answer way op).number ≡ 0) ↔ (judge (operation_rules op) ≡ Ok tt)
 done-is way op = rw (by-rules way op) (map-number-zero (folded_map (encoded (raw_of way op))) (operation_rules op))
 
 -- An operation that breaks a rule answers the refusal of the first that it breaks, and a map of zeros.
-pub refused-zeros : (way : Way) (op : Operation) (r : Refusal) → judge (operation_rules op) ≡ Refused r → operation_answer way op ≡ refusal (no_map ∷ []) r
+pub refused-zeros : (way : Way) (op : Operation) (r : Refusal) → judge (operation_rules op) ≡ Err r → operation_answer way op ≡ refusal (no_map ∷ []) r
 refused-zeros way op r e = by-rules way op ∙ map-refused (folded_map (encoded (raw_of way op))) (operation_rules op) r e
 
 -- Every other cause of number 2 is judged before a repeat, and carries zeros; a repeat carries its two places.
 pub repeat-last : (l : List ℕ)
-    → (judge (list_rules true false l) ≡ Refused Attribute)
-    × (free l ≡ false → judge (list_rules true true l) ≡ Refused (Repeat (earlier_place l) (later_place l)))
+    → (judge (list_rules true false l) ≡ Err Attribute)
+    × (free l ≡ false → judge (list_rules true true l) ≡ Err (Repeat (earlier_place l) (later_place l)))
 repeat-last l = (other-first l, λ e. rw e)
 
 -- What shapes hold past their ranks, and operands past their count, alters nothing in the answer.
@@ -91,8 +91,8 @@ past-counts way p q e = sym (same way p) ∙ ap (operation_answer way) e ∙ sam
 
 -- the rules are kept, and it is the folded map
 record Given (rules : List Rule) (m h : IndexingMap) : Type 0 where
-  kept : judge rules ≡ Done
-  folds : judge (fold_rules m) ≡ Done
+  kept : judge rules ≡ Ok tt
+  folds : judge (fold_rules m) ≡ Ok tt
   is : h ≡ folded_map m
 
 given : (rules : List Rule) (m h : IndexingMap) → folded_answer rules m ≡ done (h ∷ []) → Given rules m h
@@ -106,7 +106,7 @@ given rules m h e =
     }
 
 -- its pairs
-handed : (m : Raw) (R : List ℕ → List ℕ → Type 0) (h : IndexingMap) → Means m R → Fits m → judge (fold_rules (encoded m)) ≡ Done → h ≡ folded_map (encoded m)
+handed : (m : Raw) (R : List ℕ → List ℕ → Type 0) (h : IndexingMap) → Means m R → Fits m → judge (fold_rules (encoded m)) ≡ Ok tt → h ≡ folded_map (encoded m)
     → (x y : List ℤ) → Sends h x y ↔ Points R x y
 handed m R h means fits folds is x y = (
   λ p. (means x y).0 ((encoded-names m fits x y).1 ((folded-names (encoded m) folds x y).1 (subst (λ (n : IndexingMap). Sends n x y) is p))),

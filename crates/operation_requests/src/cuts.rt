@@ -1,102 +1,65 @@
 // The request `slice`: the input and a cut for each dimension.
 use crate::ways::read_way;
-use indexing::AnsweredMap;
-use map_printing::print_answer;
-use operations::Way;
-use reading::{
-    Cursor, NumbersRead, expect, first_of, is_next, one_more, put_at, read_shape, read_unsigned,
-};
-use shape::Shape;
-use std::io;
+use map_printing::print_map;
+use reading::{Line, Unreadable, first_of, put_at};
 use std::io::Write;
-use writing::error;
+use writing::Failure;
 
-// With the cut at the cursor.
-fn with_cut(
-    line: &[u8],
-    read: NumbersRead,
-    starts: &mut [u64],
-    limits: &mut [u64],
-    strides: &mut [u64],
-) -> NumbersRead {
-    let start = read_unsigned(line, expect(line, read.next, b'['));
-    let limit = read_unsigned(line, expect(line, start.next, b':'));
-    let stride = read_unsigned(line, expect(line, limit.next, b':'));
-    let place = read.count;
-    put_at(starts, place, start.value);
-    put_at(limits, place, limit.value);
-    put_at(strides, place, stride.value);
-    NumbersRead {
-        count: one_more(place),
-        next: expect(line, stride.next, b']'),
-    }
-}
+// The places of a buffer for cuts, of which each has seven bytes of a line at least.
+const PLACES: usize = 16384;
 
-// The cuts at a cursor, or none, read into lent buffers.
-fn read_cuts(
-    line: &[u8],
-    from: Cursor,
-    starts: &mut [u64],
-    limits: &mut [u64],
-    strides: &mut [u64],
-) -> NumbersRead {
-    let mut read = NumbersRead {
-        count: 0,
-        next: from,
-    };
-    let mut left = line.len();
-    while left > 0 && is_next(line, read.next, b'[') {
-        read = with_cut(line, read, starts, limits, strides);
-        left -= 1;
-    }
-    read
-}
-
-// The answer of the library for the first cuts.
-fn map_of(
-    way: Way,
-    input: Shape,
+// The cuts that a line has: how many there are, and the first of them.
+#[derive(Clone, Copy)]
+struct Cuts {
     count: usize,
-    starts: &[u64],
-    limits: &[u64],
-    strides: &[u64],
-) -> AnsweredMap {
-    operations::slice(
-        way,
-        input,
-        first_of(starts, count),
-        first_of(limits, count),
-        first_of(strides, count),
-    )
+    starts: [u64; PLACES],
+    limits: [u64; PLACES],
+    strides: [u64; PLACES],
 }
 
-// The answer with the cuts read into lent buffers.
-fn slice_in<W: Write>(
-    line: &[u8],
-    from: Cursor,
-    starts: &mut [u64],
-    limits: &mut [u64],
-    strides: &mut [u64],
-    out: &mut W,
-) -> io::Result<()> {
-    let input = read_shape(line, from);
-    let cuts = read_cuts(line, input.next, starts, limits, strides);
-    let read = read_way(line, cuts.next);
-    let way = read.way;
-    let end = read.next;
-    if !end.ok {
-        return error(out, end.at);
+impl Cuts {
+    // Reads cuts, or none.
+    fn read(&mut self, line: &mut Line<'_>) -> Result<(), Unreadable> {
+        for _ in 0..line.length() {
+            if !line.is_next(b'[') {
+                break;
+            }
+            self.read_cut(line)?;
+        }
+        Ok(())
     }
-    print_answer(
-        out,
-        map_of(way, input.shape, cuts.count, starts, limits, strides),
-    )
+
+    // Reads a cut.
+    fn read_cut(&mut self, line: &mut Line<'_>) -> Result<(), Unreadable> {
+        line.expect(b'[')?;
+        let start = line.unsigned()?;
+        line.expect(b':')?;
+        let limit = line.unsigned()?;
+        line.expect(b':')?;
+        let stride = line.unsigned()?;
+        line.expect(b']')?;
+        put_at(&mut self.starts, self.count, start);
+        put_at(&mut self.limits, self.count, limit);
+        put_at(&mut self.strides, self.count, stride);
+        self.count = self.count.saturating_add(1);
+        Ok(())
+    }
 }
 
-// The answer to a request whose input starts at a cursor. A cut has seven bytes at least.
-pub fn answer_slice<W: Write>(line: &[u8], from: Cursor, out: &mut W) -> io::Result<()> {
-    let mut starts = [0u64; 16384];
-    let mut limits = [0u64; 16384];
-    let mut strides = [0u64; 16384];
-    slice_in(line, from, &mut starts, &mut limits, &mut strides, out)
+pub fn answer_slice<W: Write>(mut line: Line<'_>, out: &mut W) -> Result<(), Failure> {
+    let mut cuts = Cuts {
+        count: 0,
+        starts: [0; PLACES],
+        limits: [0; PLACES],
+        strides: [0; PLACES],
+    };
+    let input = line.shape()?;
+    cuts.read(&mut line)?;
+    let way = read_way(&mut line)?;
+    let starts = first_of(&cuts.starts, cuts.count);
+    let limits = first_of(&cuts.limits, cuts.count);
+    let strides = first_of(&cuts.strides, cuts.count);
+    let map = operations::slice(way, input, starts, limits, strides)?;
+    print_map(out, &map)?;
+    Ok(())
 }

@@ -7,11 +7,11 @@ mod operands;
 mod shapes;
 mod ways;
 
-use reading::{Cursor, same};
-use std::io;
+use reading::Line;
 use std::io::Write;
+use writing::Failure;
 
-#[derive(Clone, Copy)]
+#[derive(Clone, Copy, Debug, PartialEq, Eq)]
 pub enum Operation {
     Elementwise,
     Broadcast,
@@ -21,56 +21,35 @@ pub enum Operation {
     Reduce,
     Slice,
     Reshape,
-    Unknown,
 }
 
-// The operation of that name.
-pub fn operation_named(name: &[u8]) -> Operation {
-    if same(name, b"elementwise") {
-        return Operation::Elementwise;
+impl Operation {
+    // The operation of that name.
+    pub fn named(name: &[u8]) -> Option<Operation> {
+        match name {
+            b"elementwise" => Some(Operation::Elementwise),
+            b"broadcast" => Some(Operation::Broadcast),
+            b"transpose" => Some(Operation::Transpose),
+            b"reverse" => Some(Operation::Reverse),
+            b"concatenate" => Some(Operation::Concatenate),
+            b"reduce" => Some(Operation::Reduce),
+            b"slice" => Some(Operation::Slice),
+            b"reshape" => Some(Operation::Reshape),
+            _ => None,
+        }
     }
-    if same(name, b"broadcast") {
-        return Operation::Broadcast;
-    }
-    if same(name, b"transpose") {
-        return Operation::Transpose;
-    }
-    if same(name, b"reverse") {
-        return Operation::Reverse;
-    }
-    named_sized(name)
-}
 
-// The operations that change sizes.
-fn named_sized(name: &[u8]) -> Operation {
-    if same(name, b"concatenate") {
-        return Operation::Concatenate;
-    }
-    if same(name, b"reduce") {
-        return Operation::Reduce;
-    }
-    if same(name, b"slice") {
-        return Operation::Slice;
-    }
-    if same(name, b"reshape") {
-        return Operation::Reshape;
-    }
-    Operation::Unknown
-}
-
-// The answer to a request for an operation whose arguments start at a cursor.
-pub fn answer_operation<W: Write>(
-    line: &[u8],
-    operation: Operation,
-    from: Cursor,
-    out: &mut W,
-) -> io::Result<()> {
-    match operation {
-        Operation::Elementwise => shapes::answer_elementwise(line, from, out),
-        Operation::Reshape => shapes::answer_reshape(line, from, out),
-        Operation::Concatenate => operands::answer_concatenate(line, from, out),
-        Operation::Slice => cuts::answer_slice(line, from, out),
-        Operation::Broadcast => lists::answer_broadcast(line, from, out),
-        _ => lists::answer_listed(line, operation, from, out),
+    // The answer to a line that is read up to the request's arguments.
+    pub fn answer<W: Write>(self, line: Line<'_>, out: &mut W) -> Result<(), Failure> {
+        match self {
+            Operation::Elementwise => shapes::answer_elementwise(line, out),
+            Operation::Broadcast => lists::answer_broadcast(line, out),
+            Operation::Transpose => lists::answer_transpose(line, out),
+            Operation::Reverse => lists::answer_reverse(line, out),
+            Operation::Concatenate => operands::answer_concatenate(line, out),
+            Operation::Reduce => lists::answer_reduce(line, out),
+            Operation::Slice => cuts::answer_slice(line, out),
+            Operation::Reshape => shapes::answer_reshape(line, out),
+        }
     }
 }

@@ -1,53 +1,36 @@
 // The way of a map, the last argument of a request for one.
-use crate::Operation;
 use operations::Way;
-use reading::{Cursor, expect_hyphenated, finish, is_hyphenated};
+use reading::{Line, Unreadable};
 
-// A way, and whether it is one between the output and the initial value of a reduce.
+// A way of a reduce: between its output and its input, or its output and its initial value.
 #[derive(Clone, Copy)]
-pub struct WayRead {
-    pub way: Way,
-    pub is_init: bool,
-    pub next: Cursor,
+pub enum ReduceWay {
+    Input(Way),
+    Init(Way),
 }
 
-// The way that ends the request, by the names of the ways from the output and to it.
-fn read_named(line: &[u8], from: Cursor, is_init: bool, output: &[u8], input: &[u8]) -> WayRead {
-    if is_hyphenated(line, from, input) {
-        return WayRead {
-            way: Way::InputToOutput,
-            is_init,
-            next: finish(line, expect_hyphenated(line, from, input)),
-        };
-    }
-    WayRead {
-        way: Way::OutputToInput,
-        is_init,
-        next: finish(line, expect_hyphenated(line, from, output)),
-    }
+// Reads the way that ends the request.
+pub fn read_way(line: &mut Line<'_>) -> Result<Way, Unreadable> {
+    let at = line.unreadable();
+    let way = match line.hyphenated() {
+        b"out-to-in" => Way::OutputToInput,
+        b"in-to-out" => Way::InputToOutput,
+        _ => return Err(at),
+    };
+    line.finish()?;
+    Ok(way)
 }
 
-// The way that ends the request.
-pub fn read_way(line: &[u8], from: Cursor) -> WayRead {
-    read_named(line, from, false, b"out-to-in", b"in-to-out")
-}
-
-fn is_init_next(line: &[u8], from: Cursor) -> bool {
-    is_hyphenated(line, from, b"out-to-init") || is_hyphenated(line, from, b"init-to-out")
-}
-
-// The way that ends the request for a reduce.
-fn read_reduce_way(line: &[u8], from: Cursor) -> WayRead {
-    if is_init_next(line, from) {
-        return read_named(line, from, true, b"out-to-init", b"init-to-out");
-    }
-    read_way(line, from)
-}
-
-// The way that ends the request for an operation.
-pub fn read_way_of(line: &[u8], operation: Operation, from: Cursor) -> WayRead {
-    match operation {
-        Operation::Reduce => read_reduce_way(line, from),
-        _ => read_way(line, from),
-    }
+// Reads the way that ends the request for a reduce.
+pub fn read_reduce_way(line: &mut Line<'_>) -> Result<ReduceWay, Unreadable> {
+    let at = line.unreadable();
+    let way = match line.hyphenated() {
+        b"out-to-in" => ReduceWay::Input(Way::OutputToInput),
+        b"in-to-out" => ReduceWay::Input(Way::InputToOutput),
+        b"out-to-init" => ReduceWay::Init(Way::OutputToInput),
+        b"init-to-out" => ReduceWay::Init(Way::InputToOutput),
+        _ => return Err(at),
+    };
+    line.finish()?;
+    Ok(way)
 }

@@ -1,4 +1,5 @@
 -- Operations that treat each dimension by itself: what is judged, and what the maps ask for. Assumes nothing.
+use Rattle.std.specs.Prelude.{Ok}
 use mathlib.Core.Path.{◌≡◌, ap}
 use mathlib.Core.Bool.{Bool, true, false, cond, ◌&&◌}
 use mathlib.Core.List.{List, []}
@@ -11,7 +12,6 @@ use Rattle.radix.specs.Radix.{max_size}
 use Rattle.radix.proofs.Tests.{and_left, and_right, every-at}
 use Rattle.refusal.specs.Judge.{judge}
 use Rattle.refusal.specs.declared.Refusal.TheVariants.{ShapeLimits, Attribute}
-use Rattle.refusal.specs.declared.Verdict.TheVariants.{Done}
 use Rattle.refusal.proofs.Judged.{kept, rest}
 use Rattle.shape.specs.Shape.{sizes_of, good_shape}
 use Rattle.shape.specs.declared.Shape.{Shape}
@@ -66,13 +66,13 @@ module _ (ns : List ℕ) (g : Limited ns) where
 
 -- ---- a judged operation
 
-pub elementwise-good : (x : Shape) → judge (operation_rules (Operation.elementwise x)) ≡ Done → (good_shape x ≡ true) × AllReady Kept (sizes_of x) [] [] []
+pub elementwise-good : (x : Shape) → judge (operation_rules (Operation.elementwise x)) ≡ Ok tt → (good_shape x ≡ true) × AllReady Kept (sizes_of x) [] [] []
 elementwise-good x e = let g = kept (good_shape x) ShapeLimits _ e in (g, kept-ready (sizes_of x) (limited-of x g) [] [] [])
 
-pub reverse-good : (x : Shape) (l : List ℕ) → judge (operation_rules (Operation.reverse x l)) ≡ Done → (good_shape x ≡ true) × AllReady Reversed (sizes_of x) l l l
+pub reverse-good : (x : Shape) (l : List ℕ) → judge (operation_rules (Operation.reverse x l)) ≡ Ok tt → (good_shape x ≡ true) × AllReady Reversed (sizes_of x) l l l
 reverse-good x l e = let g = kept (good_shape x) ShapeLimits _ e in (g, reversed-ready (sizes_of x) (limited-of x g) l l l)
 
-pub slice-good : (x : Shape) (a b c : List ℕ) → judge (operation_rules (Operation.slice x a b c)) ≡ Done → (good_shape x ≡ true) × AllReady Sliced (sizes_of x) a b c
+pub slice-good : (x : Shape) (a b c : List ℕ) → judge (operation_rules (Operation.slice x a b c)) ≡ Ok tt → (good_shape x ≡ true) × AllReady Sliced (sizes_of x) a b c
 slice-good x a b c e =
     let g = kept (good_shape x) ShapeLimits _ e in
     (g, sliced-ready (sizes_of x) (limited-of x g) a b c (kept (good_cuts (sizes_of x) a b c) Attribute _ (rest (good_shape x) ShapeLimits _ e)))

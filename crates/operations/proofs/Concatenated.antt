@@ -1,4 +1,5 @@
 -- Concatenation: what is judged, and what the map asks for. Assumes nothing.
+use Rattle.std.specs.Prelude.{Ok}
 use mathlib.Core.Path.{◌≡◌, sym, ap, ap₂, ◌∙◌}
 use mathlib.Core.Bool.{Bool, true, false, ◌&&◌}
 use mathlib.Core.List.{List, [], map}
@@ -12,7 +13,6 @@ use Rattle.radix.specs.Radix.{max_size, max_count, prod, is_within, Upto}
 use Rattle.radix.proofs.Tests.{every-all, every-not, every-at, upto-bounded}
 use Rattle.refusal.specs.Judge.{judge}
 use Rattle.refusal.specs.declared.Refusal.TheVariants.{ShapeLimits, Attribute}
-use Rattle.refusal.specs.declared.Verdict.TheVariants.{Done}
 use Rattle.refusal.proofs.Judged.{kept, rest}
 use Rattle.shape.specs.Shape.{max_rank, sizes_of, good_shape}
 use Rattle.shape.specs.declared.Shape.{Shape}
@@ -133,7 +133,7 @@ pub join-some : (x : Operands) (dim j : ℕ) → GoodOperands x → good_join x.
     → Some x × ((j < x.count) × (dim < length (operand_sizes x.count x.shapes 0)))
 join-some x dim j g e = let t = joins_of x.count x.shapes dim j e in (record { good = g; one = t.one; few = t.few }, (t.asked, t.dimension))
 
-pub concatenate-judged : (x : Operands) (dim j : ℕ) → length x.shapes ≡ max_operands → judge (operation_rules (Operation.concatenate x.count x.shapes dim j)) ≡ Done → Judged x dim j
+pub concatenate-judged : (x : Operands) (dim j : ℕ) → length x.shapes ≡ max_operands → judge (operation_rules (Operation.concatenate x.count x.shapes dim j)) ≡ Ok tt → Judged x dim j
 concatenate-judged x dim j eight e =
     let e1 = rest (good_operands x.count x.shapes) ShapeLimits _ e in
     let g = good-operands x eight (kept (good_operands x.count x.shapes) ShapeLimits _ e) in

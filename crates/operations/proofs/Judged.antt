@@ -1,4 +1,5 @@
 -- The rules of the operations as they are judged, and the answer of a judged operation. Assumes nothing.
+use Rattle.std.specs.Prelude.{Result, Ok, Err}
 use mathlib.Core.Path.{◌≡◌, refl, sym, ap, ap₂, ◌∙◌}
 use mathlib.Core.Logic.{⊎_elim}
 use mathlib.Core.Bool.{Bool, true, false, cond, not, ◌&&◌}
@@ -12,20 +13,17 @@ use lib.ListN.{length, get_or}
 use Rattle.refusal.specs.Number.{Answer, answered, done, refusal, verdict_answer, number_of}
 use Rattle.refusal.specs.Judge.{Rule, unless, judge}
 use Rattle.refusal.specs.declared.Refusal.{Refusal}
-use Rattle.refusal.specs.declared.Refusal.TheVariants.{ShapeLimits, Attribute, Repeat}
-use Rattle.refusal.specs.declared.Verdict.{Verdict}
-use Rattle.refusal.specs.declared.Verdict.TheVariants.{Done, Refused}
+use Rattle.refusal.specs.declared.Refusal.TheVariants.{ShapeLimits, Repeat}
+use Rattle.refusal.specs.Judge.{Verdict}
 use Rattle.refusal.proofs.Judged.{kept, after-done, after-refused}
 use Rattle.refusal.proofs.Theorems.{number-positive}
-use Rattle.radix.specs.Radix.{prod, every}
 use Rattle.radix.proofs.Tests.{and-true, and-false, and_left, and_right, every-all, every-not, every-at}
 use Rattle.shape.specs.Shape.{sizes_of, good_shape, max_rank}
 use Rattle.shape.specs.Dimensions.{in_range, free, first_repeat, earlier_place, later_place}
 use Rattle.shape.specs.declared.Shape.{Shape}
 use Rattle.indexing.specs.declared.IndexingMap.{IndexingMap}
-use Rattle.indexing.specs.Answers.{no_map, map_answer, answered_map}
+use Rattle.indexing.specs.Answers.{no_map, map_answer}
 use Rattle.fold.specs.FoldMap.{fold_rules, folded_map, fold_answer}
-use Rattle.indexing.specs.declared.AnsweredMap.{AnsweredMap}
 use Rattle.shape.proofs.Limits.{limits}
 use Rattle.operation_maps.specs.declared.Way.{Way}
 use Rattle.operation_maps.specs.declared.Way.TheVariants.{OutputToInput, InputToOutput}
@@ -37,46 +35,40 @@ use Rattle.operation_maps.proofs.Meaning.{choice-of, list-good}
 
 -- ---- the answer: folding's own, or the refusal of a rule
 
-verdict-done : (v : Verdict) → verdict_answer Done ≡ verdict_answer v → v ≡ Done
-verdict-done Done e = refl
-verdict-done (Refused r) e = let z : 0 ≡ number_of r = ap (λ (a : Answer ℕ). a.number) e in absurd (omega (arith, z, number-positive r))
+verdict-done : (v : Verdict) → verdict_answer (Ok tt) ≡ verdict_answer v → v ≡ Ok tt
+verdict-done (Ok tt) e = refl
+verdict-done (Err r) e = let z : 0 ≡ number_of r = ap (λ (a : Answer ℕ). a.number) e in absurd (omega (arith, z, number-positive r))
 
-pub judged-done : (rules : List Rule) → verdict_answer Done ≡ verdict_answer (judge rules) → judge rules ≡ Done
+pub judged-done : (rules : List Rule) → verdict_answer (Ok tt) ≡ verdict_answer (judge rules) → judge rules ≡ Ok tt
 judged-done rules e = verdict-done (judge rules) e
 
-pub answer-done : (rules : List Rule) (m : IndexingMap) (r : AnsweredMap) → verdict_answer Done ≡ verdict_answer (judge rules) → map_answer r ≡ fold_answer m → map_answer r ≡ folded_answer rules m
+pub answer-done : (rules : List Rule) (m : IndexingMap) (r : Result IndexingMap Refusal) → verdict_answer (Ok tt) ≡ verdict_answer (judge rules) → map_answer r ≡ fold_answer m → map_answer r ≡ folded_answer rules m
 unfolding fold_answer
 answer-done rules m r e f =
     f ∙ ap (λ (v : Verdict). answered (no_map ∷ []) v (folded_map m ∷ [])) (sym (after-done rules (fold_rules m) (judged-done rules e)))
 
-pub answer-refused : (rules : List Rule) (m : IndexingMap) (r : Refusal) → verdict_answer (Refused r) ≡ verdict_answer (judge rules) → map_answer (answered_map (Refused r) no_map) ≡ folded_answer rules m
+pub answer-refused : (rules : List Rule) (m : IndexingMap) (r : Refusal) → verdict_answer (Err r) ≡ verdict_answer (judge rules) → map_answer (Err r) ≡ folded_answer rules m
 answer-refused rules m r e = go (judge rules) refl e
   where
-    go : (v : Verdict) → judge rules ≡ v → verdict_answer (Refused r) ≡ verdict_answer v → map_answer (answered_map (Refused r) no_map) ≡ folded_answer rules m
-    go Done q e = let z : number_of r ≡ 0 = ap (λ (a : Answer ℕ). a.number) e in absurd (omega (arith, z, number-positive r))
-    go (Refused s) q e =
+    go : (v : Verdict) → judge rules ≡ v → verdict_answer (Err r) ≡ verdict_answer v → map_answer (Err r) ≡ folded_answer rules m
+    go (Ok tt) q e = let z : number_of r ≡ 0 = ap (λ (a : Answer ℕ). a.number) e in absurd (omega (arith, z, number-positive r))
+    go (Err s) q e =
         ap₂ (λ (n : ℕ) (ps : List ℕ). record { number = n; values = no_map ∷ []; places = ps }) (ap (λ (a : Answer ℕ). a.number) e) (ap (λ (a : Answer ℕ). a.places) e)
         ∙ ap (λ (v : Verdict). answered (no_map ∷ []) v (folded_map m ∷ [])) (sym (after-refused rules (fold_rules m) s q))
 
 -- ---- a list judged for repeats
 
-pub repeat-judged : (l : List ℕ) → first_repeat l ≡ verdict_answer (unless (free l) (Repeat (earlier_place l) (later_place l)) Done)
+pub repeat-judged : (l : List ℕ) → first_repeat l ≡ verdict_answer (unless (free l) (Repeat (earlier_place l) (later_place l)) (Ok tt))
 unfolding first_repeat
 repeat-judged l = go (free l)
   where
-    go : (b : Bool) → cond b (done {A = ℕ} []) (refusal {A = ℕ} [] (Repeat (earlier_place l) (later_place l))) ≡ verdict_answer (unless b (Repeat (earlier_place l) (later_place l)) Done)
+    go : (b : Bool) → cond b (done {A = ℕ} []) (refusal {A = ℕ} [] (Repeat (earlier_place l) (later_place l))) ≡ verdict_answer (unless b (Repeat (earlier_place l) (later_place l)) (Ok tt))
     go true = refl
     go false = refl
 
 -- ---- a shape, or shapes, the other attributes, and a list
 
 module _ (g a : Bool) (l : List ℕ) where
-  pub list-shapes : g ≡ false → verdict_answer (Refused ShapeLimits) ≡ verdict_answer (judge (list_rules g a l))
-  list-shapes e = rw e
-
-  pub list-attributes : g ≡ true → a ≡ false → verdict_answer (Refused Attribute) ≡ verdict_answer (judge (list_rules g a l))
-  list-attributes e f = rw (e, f)
-
   pub list-repeat : g ≡ true → a ≡ true → first_repeat l ≡ verdict_answer (judge (list_rules g a l))
   list-repeat e f = rw (e, f) (repeat-judged l)
 
@@ -105,27 +97,27 @@ module _ (x : Shape) (l : List ℕ) (long : length x.sizes ≡ max_rank) where
 
 -- ---- what the maps ask for
 
-pub transpose-chosen : (x : Shape) (l : List ℕ) → judge (operation_rules (Operation.transpose x l)) ≡ Done → Chosen x l
+pub transpose-chosen : (x : Shape) (l : List ℕ) → judge (operation_rules (Operation.transpose x l)) ≡ Ok tt → Chosen x l
 transpose-chosen x l e =
     let g = list-good (good_shape x) (eqb (length l) (rank_of x) && in_range (rank_of x) l) l e in
     record { good = g.0; choice = choice-of l (rank_of x) (and_right (eqb (length l) (rank_of x)) _ g.1.0) g.1.1 }
 
-pub broadcast-chosen : (x y : Shape) (l : List ℕ) → judge (operation_rules (Operation.broadcast x y l)) ≡ Done → Chosen y l
+pub broadcast-chosen : (x y : Shape) (l : List ℕ) → judge (operation_rules (Operation.broadcast x y l)) ≡ Ok tt → Chosen y l
 broadcast-chosen x y l e =
     let g = list-good (good_shape x && good_shape y) (good_broadcast (sizes_of x) (sizes_of y) l) l e in
     let r = and_left (in_range (rank_of y) l) _ (and_right (eqb (length l) (length (sizes_of x))) _ g.1.0) in
     record { good = and_right (good_shape x) (good_shape y) g.0; choice = choice-of l (rank_of y) r g.1.1 }
 
-pub reduce-chosen : (x : Shape) (l : List ℕ) → judge (operation_rules (Operation.reduce x l)) ≡ Done → good_shape x ≡ true
+pub reduce-chosen : (x : Shape) (l : List ℕ) → judge (operation_rules (Operation.reduce x l)) ≡ Ok tt → good_shape x ≡ true
 reduce-chosen x l e = (list-good (good_shape x) (in_range (rank_of x) l) l e).0
 
 -- ---- either way
 
 module _ (way : Way) (op : Operation) (v : Verdict) (told : verdict_answer v ≡ verdict_answer (judge (operation_rules op))) where
-  pub way-ready : v ≡ Done → judge (operation_rules op) ≡ Done
+  pub way-ready : v ≡ Ok tt → judge (operation_rules op) ≡ Ok tt
   way-ready e = judged-done (operation_rules op) (ap verdict_answer (sym e) ∙ told)
 
-  pub way-done : v ≡ Done → (m : IndexingMap) (r : AnsweredMap) → m ≡ encoded (raw_of way op) → map_answer r ≡ fold_answer m → map_answer r ≡ operation_answer way op
+  pub way-done : v ≡ Ok tt → (m : IndexingMap) (r : Result IndexingMap Refusal) → m ≡ encoded (raw_of way op) → map_answer r ≡ fold_answer m → map_answer r ≡ operation_answer way op
   unfolding output_to_input_answer input_to_output_answer
   way-done e m r f g = go way (g ∙ ap fold_answer f)
     where
@@ -133,11 +125,11 @@ module _ (way : Way) (op : Operation) (v : Verdict) (told : verdict_answer v ≡
       go OutputToInput h = answer-done (operation_rules op) (encoded (output_to_input op)) r (ap verdict_answer (sym e) ∙ told) h
       go InputToOutput h = answer-done (operation_rules op) (encoded (input_to_output op)) r (ap verdict_answer (sym e) ∙ told) h
 
-  pub way-refused : (q : Refusal) → v ≡ Refused q → (r : AnsweredMap) → r ≡ answered_map (Refused q) no_map → map_answer r ≡ operation_answer way op
+  pub way-refused : (q : Refusal) → v ≡ Err q → map_answer (Err q) ≡ operation_answer way op
   unfolding output_to_input_answer input_to_output_answer
-  way-refused q e r f = ap map_answer f ∙ go way
+  way-refused q e = go way
     where
-      go : (w : Way) → map_answer (answered_map (Refused q) no_map) ≡ operation_answer w op
+      go : (w : Way) → map_answer (Err q) ≡ operation_answer w op
       go OutputToInput = answer-refused (operation_rules op) (encoded (output_to_input op)) q (ap verdict_answer (sym e) ∙ told)
       go InputToOutput = answer-refused (operation_rules op) (encoded (input_to_output op)) q (ap verdict_answer (sym e) ∙ told)
 
@@ -164,12 +156,6 @@ module _ (inn out l : List ℕ) where
   abbrev agrees : ℕ → Bool
   agrees k = eqb (get_or inn k 0) (get_or out (get_or l k 0) 0)
 
-  pub broadcast-length : (length l ≡ length inn → ⊥) → false ≡ good_broadcast inn out l
-  broadcast-length h = sym (ap (λ (b : Bool). b && (in_range (length out) l && every agrees (length l))) (ne_eqb (length l) (length inn) h))
-
-  pub broadcast-range : in_range (length out) l ≡ false → false ≡ good_broadcast inn out l
-  broadcast-range h = sym (and-false (eqb (length l) (length inn)) (ap (λ (b : Bool). b && every agrees (length l)) h))
-
   pub broadcast-differs : (k : ℕ) → k < length l → (get_or inn k 0 ≡ get_or out (get_or l k 0) 0 → ⊥) → false ≡ good_broadcast inn out l
   broadcast-differs k h n =
       sym (and-false (eqb (length l) (length inn)) (and-false (in_range (length out) l) (every-not agrees (length l) k h (ne_eqb (get_or inn k 0) (get_or out (get_or l k 0) 0) n))))
@@ -185,28 +171,11 @@ module _ (inn out l : List ℕ) where
 pub holds-next : (f : ℕ → Bool) (k : ℕ) → ((i : ℕ) → i < k → f i ≡ true) → f k ≡ true → (i : ℕ) → i < k + 1 → f i ≡ true
 holds-next f k h e i l = ⊎_elim (λ (q : i ≡ k). ap f q ∙ e) (λ (q : i < k). h i q) (eq-or-lt_of_le (le_of_suc-le-suc (omega arith)))
 
-pub broadcast-judged : (x y : Shape) (l : List ℕ) (v : Verdict) (a : Bool) → good_shape x ≡ true → good_shape y ≡ true → a ≡ good_broadcast (sizes_of x) (sizes_of y) l → verdict_answer v ≡ verdict_answer (judge (list_rules true a l))
-    → verdict_answer v ≡ verdict_answer (judge (operation_rules (Operation.broadcast x y l)))
-broadcast-judged x y l v a e f g h =
-    h ∙ ap verdict_answer (list_same true (good_shape x && good_shape y) a (good_broadcast (sizes_of x) (sizes_of y) l) l (sym (and-true e f)) (λ q. g))
-
 -- ---- reshape
 
 module _ (x y : Shape) where
   abbrev reshaped : Operation
   reshaped = Operation.reshape x y
 
-  pub reshape-input : good_shape x ≡ false → Refused ShapeLimits ≡ judge (operation_rules reshaped)
-  reshape-input e = rw e
-
-  pub reshape-output : good_shape x ≡ true → good_shape y ≡ false → Refused ShapeLimits ≡ judge (operation_rules reshaped)
-  reshape-output e f = rw (e, f)
-
-  pub reshape-counts : good_shape x ≡ true → good_shape y ≡ true → (prod (sizes_of x) ≡ prod (sizes_of y) → ⊥) → Refused Attribute ≡ judge (operation_rules reshaped)
-  reshape-counts e f h = rw (e, f, ne_eqb (prod (sizes_of x)) (prod (sizes_of y)) h)
-
-  pub reshape-done : good_shape x ≡ true → good_shape y ≡ true → prod (sizes_of x) ≡ prod (sizes_of y) → Done ≡ judge (operation_rules reshaped)
-  reshape-done e f h = rw (e, f, eq-eqb (prod (sizes_of x)) (prod (sizes_of y)) h)
-
-  pub reshape-good : judge (operation_rules reshaped) ≡ Done → (good_shape x ≡ true) × (good_shape y ≡ true)
+  pub reshape-good : judge (operation_rules reshaped) ≡ Ok tt → (good_shape x ≡ true) × (good_shape y ≡ true)
   reshape-good e = let b = kept (good_shape x && good_shape y) ShapeLimits _ e in (and_left (good_shape x) (good_shape y) b, and_right (good_shape x) (good_shape y) b)

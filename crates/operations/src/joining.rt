@@ -1,7 +1,6 @@
 // Concatenation.
 ghost use Rattle.std.specs.Prelude.{◌≡◌, true, ◌||◌, ◌<◌, min, eqb, get_or, []};
 ghost use Rattle.refusal.specs.Judge.{judge};
-ghost use Rattle.refusal.specs.declared.Verdict.TheVariants.{Done};
 ghost use Rattle.shape.specs.Shape.{sizes_of, good_shape};
 ghost use Rattle.indexing.specs.Answers.{map_answer};
 ghost use Rattle.map_builder.specs.Raw.{encoded};
@@ -11,10 +10,10 @@ ghost use Rattle.operation_maps.specs.Operation.{Operation, operation_rules, ope
 ghost use Rattle.operations.specs.Join.{GoodOperands, Some, SumRoom, Joins};
 
 use super::{MAX_OPERANDS, Operands, ways};
-use indexing::{AnsweredMap, IndexingMap};
+use indexing::IndexingMap;
 use operation_builder::{Change, inner};
 use operation_maps::Way;
-use refusal::{Refusal, Verdict};
+use refusal::Refusal;
 use shape::Shape;
 
 // An operand.
@@ -29,10 +28,7 @@ fn operand_of(x: Operands, k: usize) -> Shape
 fn held_count(count: usize) -> usize
     ensures { result ≡ min count max_operands }
 {
-    if count < MAX_OPERANDS {
-        return count;
-    }
-    MAX_OPERANDS
+    count.min(MAX_OPERANDS)
 }
 
 // The size of a dimension, or 0.
@@ -40,19 +36,14 @@ fn size_of(shape: Shape, dimension: u64) -> u64
     requires { good_shape shape ≡ true }
     ensures { result ≡ get_or (sizes_of shape) dimension 0 }
 {
-    let rank = shape.rank;
-    let sizes = shape.sizes;
-    inner::entry(&sizes[..rank], dimension as usize)
+    inner::entry(&shape.sizes[..shape.rank], dimension as usize)
 }
 
 // One dimension of two operands.
 fn same_at(dimension: u64, k: u64, a: u64, b: u64) -> bool
     ensures { result ≡ (eqb k dimension || eqb a b) }
 {
-    if k == dimension {
-        return true;
-    }
-    a == b
+    k == dimension || a == b
 }
 
 // One rank, and one size in every dimension but the one joined.
@@ -62,12 +53,10 @@ fn alike_sizes(dimension: u64, a: &[u64], b: &[u64]) -> bool
     if a.len() != b.len() {
         return false;
     }
-    let mut k: usize = 0;
-    while k < a.len() {
+    for k in 0..a.len() {
         if !same_at(dimension, k as u64, a[k], b[k]) {
             return false;
         }
-        k += 1;
     }
     true
 }
@@ -77,24 +66,17 @@ fn alike_shapes(dimension: u64, a: Shape, b: Shape) -> bool
     requires { (good_shape a ≡ true) × (good_shape b ≡ true) }
     ensures { result ≡ alike dimension (sizes_of a) (sizes_of b) }
 {
-    let m = a.rank;
-    let x = a.sizes;
-    let n = b.rank;
-    let y = b.sizes;
-    alike_sizes(dimension, &x[..m], &y[..n])
+    alike_sizes(dimension, &a.sizes[..a.rank], &b.sizes[..b.rank])
 }
 
 // Every operand within the limits.
 fn good_operands(x: Operands) -> bool
     ensures { result ≡ good_operands x.count x.shapes }
 {
-    let n = held_count(x.count);
-    let mut k: usize = 0;
-    while k < n {
+    for k in 0..held_count(x.count) {
         if !shape::good_shape(operand_of(x, k)) {
             return false;
         }
-        k += 1;
     }
     true
 }
@@ -105,13 +87,10 @@ fn all_alike(x: Operands, dimension: u64) -> bool
     ensures { result ≡ all_alike x.count x.shapes dimension }
 {
     let first = operand_of(x, 0);
-    let count = x.count;
-    let mut k: usize = 0;
-    while k < count {
+    for k in 0..x.count {
         if !alike_shapes(dimension, first, operand_of(x, k)) {
             return false;
         }
-        k += 1;
     }
     true
 }
@@ -122,10 +101,8 @@ fn joined_before(x: Operands, dimension: u64, n: usize) -> u64
     ensures { result ≡ joined_before x.count x.shapes dimension n }
 {
     let mut sum: u64 = 0;
-    let mut k: usize = 0;
-    while k < n {
+    for k in 0..n {
         sum += size_of(operand_of(x, k), dimension);
-        k += 1;
     }
     sum
 }
@@ -167,24 +144,24 @@ fn good_result(x: Operands, dimension: u64) -> bool
 }
 
 // The operands' shapes (1), the attributes (2), and the result's shape (1).
-fn judge_concatenate(x: Operands, dimension: u64, operand: u64) -> Verdict
+fn judge_concatenate(x: Operands, dimension: u64, operand: u64) -> Result<(), Refusal>
     ensures { result ≡ judge (operation_rules (Operation.concatenate x.count x.shapes dimension operand)) }
 {
     if !good_operands(x) {
-        return Verdict::Refused(Refusal::ShapeLimits);
+        return Err(Refusal::ShapeLimits);
     }
     if !good_join(x, dimension, operand) {
-        return Verdict::Refused(Refusal::Attribute);
+        return Err(Refusal::Attribute);
     }
     if !good_result(x, dimension) {
-        return Verdict::Refused(Refusal::ShapeLimits);
+        return Err(Refusal::ShapeLimits);
     }
-    Verdict::Done
+    Ok(())
 }
 
 // The map of the operand asked for.
 fn joined_map(out: bool, x: Operands, dimension: u64, operand: u64) -> IndexingMap
-    requires { judge (operation_rules (Operation.concatenate x.count x.shapes dimension operand)) ≡ Done }
+    requires { judge (operation_rules (Operation.concatenate x.count x.shapes dimension operand)) ≡ Ok tt }
     ensures { result ≡ encoded (axes_raw out (Joined dimension (joined_before x.count x.shapes dimension operand)) (operand_sizes x.count x.shapes operand) [] [] []) }
 {
     let k = operand as usize;
@@ -193,15 +170,14 @@ fn joined_map(out: bool, x: Operands, dimension: u64, operand: u64) -> IndexingM
 }
 
 // The map of a concatenation to or from one of its operands, folded.
-pub fn concatenate(way: Way, operands: Operands, dimension: u64, operand: u64) -> AnsweredMap
+pub fn concatenate(
+    way: Way,
+    operands: Operands,
+    dimension: u64,
+    operand: u64,
+) -> Result<IndexingMap, Refusal>
     ensures { map_answer result ≡ operation_answer way (Operation.concatenate operands.count operands.shapes dimension operand) }
 {
-    match judge_concatenate(operands, dimension, operand) {
-        Verdict::Done => {
-            return fold::fold_map(joined_map(ways::is_out(way), operands, dimension, operand));
-        }
-        Verdict::Refused(r) => {
-            return indexing::inner::refused_map(r);
-        }
-    }
+    judge_concatenate(operands, dimension, operand)?;
+    fold::fold_map(joined_map(ways::is_out(way), operands, dimension, operand))
 }

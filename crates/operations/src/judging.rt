@@ -6,18 +6,18 @@ ghost use Rattle.shape.specs.Dimensions.{in_range};
 ghost use Rattle.operation_maps.specs.Operation.{Operation, operation_rules, list_rules, good_broadcast, good_cut, good_cuts};
 
 use super::MAX_STRIDE;
-use refusal::{Refusal, Verdict};
+use refusal::Refusal;
 use shape::Shape;
 
 // The shapes (1), the other attributes (2), and the first repeat (2).
-fn judge_list(shapes: bool, attributes: bool, list: &[u64]) -> Verdict
+fn judge_list(shapes: bool, attributes: bool, list: &[u64]) -> Result<(), Refusal>
     ensures { verdict_answer result ≡ verdict_answer (judge (list_rules shapes attributes list.now)) }
 {
     if !shapes {
-        return Verdict::Refused(Refusal::ShapeLimits);
+        return Err(Refusal::ShapeLimits);
     }
     if !attributes {
-        return Verdict::Refused(Refusal::Attribute);
+        return Err(Refusal::Attribute);
     }
     shape::first_repeat(list)
 }
@@ -26,14 +26,11 @@ fn judge_list(shapes: bool, attributes: bool, list: &[u64]) -> Verdict
 fn lists_all(list: &[u64], rank: usize) -> bool
     ensures { result ≡ (eqb (length list.now) rank && in_range rank list.now) }
 {
-    if list.len() != rank {
-        return false;
-    }
-    shape::in_range(list, rank as u64)
+    list.len() == rank && shape::in_range(list, rank as u64)
 }
 
 // A transpose.
-pub fn judge_transpose(input: Shape, dimensions: &[u64]) -> Verdict
+pub fn judge_transpose(input: Shape, dimensions: &[u64]) -> Result<(), Refusal>
     ensures { verdict_answer result ≡ verdict_answer (judge (operation_rules (Operation.transpose input dimensions.now))) }
 {
     judge_list(
@@ -44,7 +41,7 @@ pub fn judge_transpose(input: Shape, dimensions: &[u64]) -> Verdict
 }
 
 // Dimensions that are turned round, or that go: reverse and reduce.
-pub fn judge_dimensions(input: Shape, dimensions: &[u64]) -> Verdict
+pub fn judge_dimensions(input: Shape, dimensions: &[u64]) -> Result<(), Refusal>
     ensures { verdict_answer result ≡ verdict_answer (judge (operation_rules (Operation.reduce input dimensions.now))) }
 {
     judge_list(
@@ -64,62 +61,47 @@ fn good_broadcast(inner: &[u64], outer: &[u64], list: &[u64]) -> bool
     if !shape::in_range(list, outer.len() as u64) {
         return false;
     }
-    let mut k: usize = 0;
-    while k < list.len() {
-        let at = list[k] as usize;
-        if inner[k] != outer[at] {
+    for (k, at) in list.iter().enumerate() {
+        if inner[k] != outer[*at as usize] {
             return false;
         }
-        k += 1;
     }
     true
 }
 
 // A broadcast.
-pub fn judge_broadcast(input: Shape, output: Shape, dimensions: &[u64]) -> Verdict
+pub fn judge_broadcast(input: Shape, output: Shape, dimensions: &[u64]) -> Result<(), Refusal>
     ensures { verdict_answer result ≡ verdict_answer (judge (operation_rules (Operation.broadcast input output dimensions.now))) }
 {
     if !shape::good_shape(input) {
-        return Verdict::Refused(Refusal::ShapeLimits);
+        return Err(Refusal::ShapeLimits);
     }
     if !shape::good_shape(output) {
-        return Verdict::Refused(Refusal::ShapeLimits);
+        return Err(Refusal::ShapeLimits);
     }
-    let a = input.rank;
-    let x = input.sizes;
-    let b = output.rank;
-    let y = output.sizes;
-    judge_list(
-        true,
-        good_broadcast(&x[..a], &y[..b], dimensions),
+    let good = good_broadcast(
+        &input.sizes[..input.rank],
+        &output.sizes[..output.rank],
         dimensions,
-    )
+    );
+    judge_list(true, good, dimensions)
 }
 
 // A shape alone.
-pub fn judge_shape(shape: Shape) -> Verdict
+pub fn judge_shape(shape: Shape) -> Result<(), Refusal>
     ensures { result ≡ judge (operation_rules (Operation.elementwise shape)) }
 {
     if shape::good_shape(shape) {
-        return Verdict::Done;
+        return Ok(());
     }
-    Verdict::Refused(Refusal::ShapeLimits)
+    Err(Refusal::ShapeLimits)
 }
 
 // A cut of one dimension.
 fn good_cut(size: u64, start: u64, limit: u64, stride: u64) -> bool
     ensures { result ≡ good_cut size start limit stride }
 {
-    if limit <= start {
-        return false;
-    }
-    if size < limit {
-        return false;
-    }
-    if stride < 1 {
-        return false;
-    }
-    stride <= MAX_STRIDE
+    start < limit && limit <= size && 1 <= stride && stride <= MAX_STRIDE
 }
 
 // A cut of every dimension.
@@ -135,27 +117,28 @@ fn good_cuts(sizes: &[u64], starts: &[u64], limits: &[u64], strides: &[u64]) -> 
     if strides.len() != sizes.len() {
         return false;
     }
-    let mut k: usize = 0;
-    while k < sizes.len() {
-        if !good_cut(sizes[k], starts[k], limits[k], strides[k]) {
+    for (k, size) in sizes.iter().enumerate() {
+        if !good_cut(*size, starts[k], limits[k], strides[k]) {
             return false;
         }
-        k += 1;
     }
     true
 }
 
 // A slice.
-pub fn judge_slice(input: Shape, starts: &[u64], limits: &[u64], strides: &[u64]) -> Verdict
+pub fn judge_slice(
+    input: Shape,
+    starts: &[u64],
+    limits: &[u64],
+    strides: &[u64],
+) -> Result<(), Refusal>
     ensures { result ≡ judge (operation_rules (Operation.slice input starts.now limits.now strides.now)) }
 {
     if !shape::good_shape(input) {
-        return Verdict::Refused(Refusal::ShapeLimits);
+        return Err(Refusal::ShapeLimits);
     }
-    let rank = input.rank;
-    let sizes = input.sizes;
-    if !good_cuts(&sizes[..rank], starts, limits, strides) {
-        return Verdict::Refused(Refusal::Attribute);
+    if !good_cuts(&input.sizes[..input.rank], starts, limits, strides) {
+        return Err(Refusal::Attribute);
     }
-    Verdict::Done
+    Ok(())
 }

@@ -7,26 +7,26 @@ ghost use Rattle.shape.specs.Shape.{good_shape};
 ghost use Rattle.map_builder.specs.Raw.{encoded};
 
 use super::ways;
-use indexing::{AnsweredMap, IndexingMap};
+use indexing::IndexingMap;
 use operation_builder::inner;
 use operation_maps::Way;
-use refusal::{Refusal, Verdict};
+use refusal::Refusal;
 use shape::Shape;
 
 // Both shapes (1), and that their element counts agree (2).
-fn judge_reshape(input: Shape, output: Shape) -> Verdict
+fn judge_reshape(input: Shape, output: Shape) -> Result<(), Refusal>
     ensures { result ≡ judge (operation_rules (Operation.reshape input output)) }
 {
     if !shape::good_shape(input) {
-        return Verdict::Refused(Refusal::ShapeLimits);
+        return Err(Refusal::ShapeLimits);
     }
     if !shape::good_shape(output) {
-        return Verdict::Refused(Refusal::ShapeLimits);
+        return Err(Refusal::ShapeLimits);
     }
     if shape::inner::count_of(input) != shape::inner::count_of(output) {
-        return Verdict::Refused(Refusal::Attribute);
+        return Err(Refusal::Attribute);
     }
-    Verdict::Done
+    Ok(())
 }
 
 // From the output to the input, or from the input to the output.
@@ -35,25 +35,15 @@ fn reshape_either(way: Way, input: Shape, output: Shape) -> IndexingMap
     ensures { result ≡ encoded (raw_of way (Operation.reshape input output)) }
 {
     match way {
-        Way::OutputToInput => {
-            return inner::shape_reshape(output, input);
-        }
-        Way::InputToOutput => {
-            return inner::shape_reshape(input, output);
-        }
+        Way::OutputToInput => inner::shape_reshape(output, input),
+        Way::InputToOutput => inner::shape_reshape(input, output),
     }
 }
 
 // The map of a reshape, folded.
-pub fn reshape(way: Way, input: Shape, output: Shape) -> AnsweredMap
+pub fn reshape(way: Way, input: Shape, output: Shape) -> Result<IndexingMap, Refusal>
     ensures { map_answer result ≡ operation_answer way (Operation.reshape input output) }
 {
-    match judge_reshape(input, output) {
-        Verdict::Done => {
-            return fold::fold_map(reshape_either(way, input, output));
-        }
-        Verdict::Refused(r) => {
-            return indexing::inner::refused_map(r);
-        }
-    }
+    judge_reshape(input, output)?;
+    fold::fold_map(reshape_either(way, input, output))
 }

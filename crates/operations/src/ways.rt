@@ -8,8 +8,5 @@ use operation_maps::Way;
 pub fn is_out(way: Way) -> bool
     ensures { result ≡ is_out way }
 {
-    match way {
-        Way::OutputToInput => true,
-        Way::InputToOutput => false,
-    }
+    matches!(way, Way::OutputToInput)
 }

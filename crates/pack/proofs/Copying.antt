@@ -1,12 +1,13 @@
 -- Runs of a table: where they begin, how they are tested, and that the places of one are copied at once. Assumes nothing.
-use mathlib.Core.Path.{◌≡◌, sym, ap, ◌∙◌, subst}
+use mathlib.Core.Path.{◌≡◌, refl, sym, ap, ◌∙◌, subst}
 use mathlib.Core.Logic.{⊎_elim, ◌⊎◌, inl, inr}
-use Prim.Native.Nat.{ℕ, zero, suc, ◌+◌, ◌*◌, ◌<◌, ◌≤◌}
-use native.Mathlib.Nat.{zero-mul, add-mul, mul-le-mul_right, min-le_left, min-le_right}
+use Prim.Native.Nat.{ℕ, zero, suc, ◌+◌, ◌-◌, ◌*◌, ◌<◌, ◌≤◌}
+use native.Mathlib.Nat.{zero-mul, add-mul, mul-le-mul_right}
 use native.Mathlib.Omega.{arith}
-use mathlib.Core.List.{List}
-use lib.ListN.{length, get_or, set, take, drop, length-take}
-use lib.Seq.{get_or-take}
+use mathlib.Core.List.{List, [], ◌∷◌, ◌++◌}
+use lib.ListN.{length, get_or, set, take, drop, length-drop, take-append-drop}
+use lib.Seq.{get_or-drop, length-take-le}
+use Rattle.std.proofs.lemmas.List.{set-append_right}
 use Rattle.radix.proofs.Lists.{le-or-lt}
 use Rattle.pack.specs.Rows.{walked, scattered, gathered, Reaches}
 use Rattle.pack.specs.Runs.{GoesOn, RunsTo, InRuns, IsPart, copied}
@@ -29,13 +30,6 @@ runs-of-one table k i h l =
     let e : k * 1 + i ≡ k * 1 = omega arith in
     let z : get_or table (k * 1) 0 ≡ get_or table (k * 1) 0 + i = omega arith in
     ap (λ (x : ℕ). get_or table x 0) e ∙ z
-
--- the first places of a table go on in the same runs
-pub runs-take : (run n : ℕ) (table : List ℕ) → InRuns run table → InRuns run (take n table)
-runs-take run n table r k i l inside =
-    let e = length-take n table in
-    let a : k * run + i < n = omega (arith, e, min-le_left n (length table)) in
-    get_or-take n table (k * run + i) 0 a ∙ r k i l (omega (arith, e, min-le_right n (length table))) ∙ ap (λ (x : ℕ). x + i) (sym (get_or-take n table (k * run) 0 (omega (arith, a))))
 
 -- the places of a run go on by ones
 pub run_at : (run : ℕ) (table : List ℕ) (j n : ℕ) → InRuns run table → AtRun run table j → IsPart j run (length table) n → GoesOn table j n
@@ -101,6 +95,21 @@ pub run-reaches : (base : ℕ) (table : List ℕ) (m j n : ℕ) → Reaches base
 run-reaches base table m j zero r some h g = absurd (omega arith)
 run-reaches base table m j (suc n) r some h g = omega (arith, r (j + n) (omega arith), g n (omega arith))
 
--- one value more
-pub copy-next : (source : List ℕ) (a n o : ℕ) (xs : List ℕ) → set (copied source a n o xs) (o + n) (get_or source (a + n) 0) ≡ copied source a (n + 1) o xs
-copy-next source a n o xs = let e : n + 1 ≡ suc n = omega arith in rw (e)
+-- the front of one list and the rest of another, one value more
+front-more : (ys zs : List ℕ) (n : ℕ) → n < length ys → n < length zs → set (take n ys ++ drop n zs) n (get_or ys n 0) ≡ take (suc n) ys ++ drop (suc n) zs
+front-more [] zs n h g = absurd (omega arith)
+front-more (y ∷ ys) [] n h g = absurd (omega arith)
+front-more (y ∷ ys) (z ∷ zs) zero h g = refl
+front-more (y ∷ ys) (z ∷ zs) (suc n) h g = ap (λ (xs : List ℕ). y ∷ xs) (front-more ys zs n (omega arith) (omega arith))
+
+-- a copied part is so many copied values
+pub part-copied : (source : List ℕ) (a n o : ℕ) (xs : List ℕ) → a + n ≤ length source → o + n ≤ length xs → take o xs ++ (take n (drop a source) ++ drop n (drop o xs)) ≡ copied source a n o xs
+part-copied source a zero o xs h g = take-append-drop o xs
+part-copied source a (suc n) o xs h g =
+    let e : o + n - o ≡ n = omega arith in
+    let long : length (take o xs) ≡ o = length-take-le o xs (omega arith) in
+    let one = front-more (drop a source) (drop o xs) n (omega (arith, length-drop a source)) (omega (arith, length-drop o xs)) in
+    let at : get_or (drop a source) n 0 ≡ get_or source (a + n) 0 = get_or-drop a source n 0 in
+    sym (ap (λ (ys : List ℕ). take o xs ++ ys) (ap (λ (v : ℕ). set (take n (drop a source) ++ drop n (drop o xs)) n v) (sym at) ∙ one))
+    ∙ sym (set-append_right (take o xs) (take n (drop a source) ++ drop n (drop o xs)) o (o + n) (get_or source (a + n) 0) long (omega arith) ∙ ap (λ (k : ℕ). take o xs ++ set (take n (drop a source) ++ drop n (drop o xs)) k (get_or source (a + n) 0)) e)
+    ∙ ap (λ (ys : List ℕ). set ys (o + n) (get_or source (a + n) 0)) (part-copied source a n o xs (omega arith) (omega arith))

@@ -2,7 +2,7 @@
 use mathlib.Core.Path.{◌≡◌, refl, sym, ap, ◌∙◌, subst}
 use mathlib.Core.Logic.{⊎_elim}
 use Prim.Native.Nat.{ℕ, suc, ◌+◌, ◌-◌, ◌*◌, ◌/◌, ◌%◌, ◌<◌, ◌≤◌, ◌^◌, min}
-use native.Mathlib.Nat.{not-suc-le-zero, eq-or-lt_of_le, add-mul, mul-le-mul_right, mul-lt-mul_of_pos_right, min-eq_left, eq-zero-or-pos, mod-eq_of_lt, div-lt_iff_lt-mul}
+use native.Mathlib.Nat.{not-suc-le-zero, eq-or-lt_of_le, add-mul, mul-le-mul_right, mul-lt-mul_of_pos_right, min-eq_left, mod-eq_of_lt, div-lt_iff_lt-mul}
 use native.Mathlib.Numerals.{add-one}
 use native.Mathlib.Omega.{arith}
 use mathlib.Core.List.{List}
@@ -152,14 +152,27 @@ module _ (sizes p lens flat : List ℕ) (r : Ready sizes p lens flat) (i span : 
           small = omega (arith, offset-below sizes p tss v (x * span) coordinate-room, r.room);
         }
 
+-- the base of the row is the offset of its first coordinate
+pub base-is : {sizes p lens flat : List ℕ} {span x : ℕ} {f : Reach} → Ready sizes p lens flat → (dims : List ℕ) → dims ≡ physical sizes p (tiles_from lens flat) → (table : List ℕ)
+    → HasOffsets sizes p (tiles_from lens flat) (x * span) (length table) table → x * span ≤ length table → FirstOf sizes p (tiles_from lens flat) span x f
+    → (product : ℕ) → product ≡ min (prod (take (length dims - (f.place + 1)) (drop (f.place + 1) dims))) (max_count + 1)
+    → get_or table ((x - f.coordinate * f.scale) * span) 0 + f.coordinate * product ≡ offset sizes p (tiles_from lens flat) (x * span)
+base-is {sizes} {p} {lens} {flat} {span} {x} {f} r dims is table h room w product e =
+    let rest = (x - f.coordinate * f.scale) * span in
+    let t : get_or table rest 0 ≡ offset sizes p (tiles_from lens flat) rest = h rest w.rest (omega (arith, w.rest)) in
+    let q : product ≡ prod (drop (suc f.place) (physical sizes p (tiles_from lens flat))) =
+    e ∙ ap (λ (l : List ℕ). min (prod (take (length l - (f.place + 1)) (drop (f.place + 1) l))) (max_count + 1)) is ∙ w.product in
+    rw (t, q) w.same
+
+-- the next row, of as many coordinates as the table has and as are left, at most
+pub next-of : {sizes p lens flat : List ℕ} {i span : ℕ} → Ready sizes p lens flat → IsSpan sizes p i span → (x most steps : ℕ) → 0 < x → x < get_or sizes (get_or p i 0) 0
+    → most ≡ min x (get_or sizes (get_or p i 0) 0 - x) → steps ≡ row_room (tiles_from lens flat) (length p) i x most
+    → NextRow sizes p (tiles_from lens flat) (get_or sizes (get_or p i 0) 0) span x steps
+next-of {sizes} {p} {lens} {flat} {i} {span} r is x most steps some less least at =
+    subst (NextRow sizes p (tiles_from lens flat) (get_or sizes (get_or p i 0) 0) span x) (sym at) (next_row sizes p lens flat r i span is x less most (omega arith) (omega arith) (omega arith))
+
 -- the dimensions are taken from the last one on: with those from k on done, dimension k - 1 is the next
 module _ (sizes p lens flat : List ℕ) (r : Ready sizes p lens flat) where
-  pub before-all : (k n : ℕ) → n ≤ prod sizes → prod (drop k sizes) < n → 0 < k
-  before-all k n h l = ⊎_elim (λ (e : k ≡ 0). absurd (none e)) (λ (e : 0 < k). e) (eq-zero-or-pos k)
-    where
-      none : k ≡ 0 → ⊥
-      none e = let w : prod (drop k sizes) ≡ prod sizes = ap (λ (o : ℕ). prod (drop o sizes)) e in omega (arith, w, h, l)
-
   module _ (k : ℕ) (some : 0 < k) (few : k ≤ length sizes) where
     pub before-size : get_or sizes (k - 1) 0 * prod (drop k sizes) ≡ prod (drop (k - 1) sizes)
     before-size =

@@ -16,7 +16,7 @@ use Rattle.radix.proofs.Radix.{length-tab, get_d-tab}
 use Rattle.tiling.specs.Tile.{offset, padded}
 use Rattle.tiling.specs.Cell.{cell, Cell, holds, padding}
 use Rattle.tiling.proofs.OwnCells.{Valid, offset-below, cell-offset, cell_holds}
-use Rattle.pack.specs.Rows.{put, put_at, Stored, Loaded, walked, scattered, gathered, Reaches, offsets_from}
+use Rattle.pack.specs.Rows.{put, put_at, Stored, Loaded, HasRoom, Carried, CarriedTo, walked, scattered, gathered, carried, Reaches, RowRoom, offsets_from}
 
 -- one place of the table more
 pub walk-next : (step : ℕ → ℕ → List ℕ → List ℕ) (base : ℕ) (table : List ℕ) (a j : ℕ) (xs : List ℕ) → j < length table
@@ -182,3 +182,26 @@ module _ (sizes p : List ℕ) (tss : List (List ℕ)) (cells before : List ℕ) 
       let e : 0 + 1 ≡ prod sizes = omega arith in
       subst (λ (o : ℕ). Loaded sizes p tss cells (prod sizes) before (set before 0 (get_or cells o 0))) first
       (subst (λ (n : ℕ). Loaded sizes p tss cells n before (set before 0 (get_or cells (offset sizes p tss 0) 0))) e (load-next 0 before (omega arith) load-none))
+
+-- both at once: none of the elements is carried yet, the only one, or all of them along a table of all offsets
+pub carried-none : (packs : Bool) (sizes p : List ℕ) (tss : List (List ℕ)) (from to : List ℕ) → CarriedTo packs sizes p tss from 0 to to
+carried-none true sizes p tss from to = store-none sizes p tss from to
+carried-none false sizes p tss from to = load-none sizes p tss from to
+
+pub carried-one : (packs : Bool) (sizes p : List ℕ) (tss : List (List ℕ)) (from to : List ℕ) → Valid sizes p tss → HasRoom packs sizes p tss from to → prod sizes ≡ 1 → offset sizes p tss 0 ≡ 0
+    → Carried packs sizes p tss from to (set to 0 (get_or from 0 0))
+carried-one true sizes p tss from to v h one first = store-one sizes p tss from to v h.1 one first
+carried-one false sizes p tss from to v h one first = load_one sizes p tss from to h.0 one first
+
+pub one-room : (packs : Bool) (sizes p : List ℕ) (tss : List (List ℕ)) (from to : List ℕ) → Valid sizes p tss → HasRoom packs sizes p tss from to → prod sizes ≡ 1 → (0 < length from) × (0 < length to)
+one-room true sizes p tss from to v h one = omega (arith, offset-below sizes p tss v 0 (omega arith), h.0, h.1)
+one-room false sizes p tss from to v h one = omega (arith, offset-below sizes p tss v 0 (omega arith), h.0, h.1)
+
+pub carried-all : (packs : Bool) (sizes p : List ℕ) (tss : List (List ℕ)) (from to : List ℕ) → Valid sizes p tss → HasRoom packs sizes p tss from to
+    → Carried packs sizes p tss from to (carried packs from 0 (offsets_from sizes p tss (prod sizes)) 0 to)
+carried-all true sizes p tss from to v h = store-all sizes p tss from to v h.1
+carried-all false sizes p tss from to v h = load-all sizes p tss from to h.0
+
+pub all-room : (packs : Bool) (sizes p : List ℕ) (tss : List (List ℕ)) (from to : List ℕ) → Valid sizes p tss → HasRoom packs sizes p tss from to → RowRoom packs from 0 (offsets_from sizes p tss (prod sizes)) 0 to
+all-room true sizes p tss from to v h = (omega (arith, offsets-long sizes p tss (prod sizes), h.0), offsets-reach sizes p tss v (prod sizes) (length to) (omega arith) h.1)
+all-room false sizes p tss from to v h = (omega (arith, offsets-long sizes p tss (prod sizes), h.0), offsets-reach sizes p tss v (prod sizes) (length from) (omega arith) h.1)

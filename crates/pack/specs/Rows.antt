@@ -3,6 +3,8 @@ use Rattle.std.specs.Prelude.{ℕ, suc, ◌+◌, ◌*◌, ◌<◌, ◌≤◌, �
 use Rattle.radix.specs.Radix.{prod, tab}
 use Rattle.tiling.specs.Tile.{padded, offset}
 use Rattle.tiling.specs.Cell.{Cell, holds, padding, cell}
+use Rattle.tiling.specs.Tiled.{tiles_in}
+use Rattle.tiling.specs.declared.tiled.Tiled.{Tiled}
 use Rattle.pack.specs.declared.cut.Cut.{Cut}
 
 -- what a cell that had v has with the first n elements stored
@@ -26,10 +28,14 @@ abbrev pub HasRoom : Bool → List ℕ → List ℕ → List (List ℕ) → List
 HasRoom true sizes p tss from to = (prod sizes ≤ length from) × (padded sizes p tss ≤ length to)
 HasRoom false sizes p tss from to = (prod sizes ≤ length to) × (padded sizes p tss ≤ length from)
 
--- all elements are stored, in packing, or loaded, and nothing else changes
+-- the first n elements are stored, in packing, or loaded, and nothing else changes
+abbrev pub CarriedTo : Bool → List ℕ → List ℕ → List (List ℕ) → List ℕ → ℕ → List ℕ → List ℕ → Type 0
+CarriedTo true sizes p tss from n before after = Stored sizes p tss from n before after
+CarriedTo false sizes p tss from n before after = Loaded sizes p tss from n before after
+
+-- all elements are
 abbrev pub Carried : Bool → List ℕ → List ℕ → List (List ℕ) → List ℕ → List ℕ → List ℕ → Type 0
-Carried true sizes p tss from before after = Stored sizes p tss from (prod sizes) before after
-Carried false sizes p tss from before after = Loaded sizes p tss from (prod sizes) before after
+Carried packs sizes p tss from before after = CarriedTo packs sizes p tss from (prod sizes) before after
 
 -- what packing starts from: 0 in the first size cells, where there are fewer elements than cells
 abbrev pub start_of : ℕ → ℕ → List ℕ → List ℕ
@@ -50,6 +56,16 @@ gathered cells = walked (λ (o a : ℕ) (xs : List ℕ). set xs a (get_or cells 
 -- every cell that the table names, counted from base, is below n
 abbrev pub Reaches : ℕ → List ℕ → ℕ → Type 0
 Reaches base table n = (j : ℕ) → j < length table → base + get_or table j 0 < n
+
+-- a row carried: places to cells, in packing, or cells to places
+abbrev pub carried : Bool → List ℕ → ℕ → List ℕ → ℕ → List ℕ → List ℕ
+carried true = scattered
+carried false = gathered
+
+-- the places from a on are among those of one list, and the cells that the table names, counted from base, among those of the other
+abbrev pub RowRoom : Bool → List ℕ → ℕ → List ℕ → ℕ → List ℕ → Type 0
+RowRoom true from base table a to = (a + length table ≤ length from) × Reaches base table (length to)
+RowRoom false from base table a to = (a + length table ≤ length to) × Reaches base table (length from)
 
 -- the offsets of the first n elements
 abbrev pub offsets_from : List ℕ → List ℕ → List (List ℕ) → ℕ → List ℕ
@@ -84,3 +100,16 @@ pub record IsRow (sizes p : List ℕ) (tss : List (List ℕ)) (g : Cut) (q r : �
   pub narrow : r ≤ g.wide
   pub inside : q + r ≤ g.steps
   pub same : (j : ℕ) → j < r * g.span → offset sizes p tss (q * g.span + j) ≡ offset sizes p tss (q * g.span) + offset sizes p tss j
+
+-- the same of the lists of a tiled shape: the room, all elements carried, the offsets of the elements below m and n, and those of the first n
+abbrev pub HasRoomFor : Tiled → Bool → List ℕ → List ℕ → Type 0
+HasRoomFor t packs from to = HasRoom packs t.sizes.now t.order.now (tiles_in t) from to
+
+abbrev pub CarriedBy : Tiled → Bool → List ℕ → List ℕ → List ℕ → Type 0
+CarriedBy t packs from before after = Carried packs t.sizes.now t.order.now (tiles_in t) from before after
+
+abbrev pub HasOffsetsOf : Tiled → ℕ → ℕ → List ℕ → Type 0
+HasOffsetsOf t m n table = HasOffsets t.sizes.now t.order.now (tiles_in t) m n table
+
+abbrev pub offsets_of : Tiled → ℕ → List ℕ
+offsets_of t n = offsets_from t.sizes.now t.order.now (tiles_in t) n

@@ -22,15 +22,9 @@ fn width_of(count: u64, most: u64) -> u64
     ensures { (0 < result) × (result ≤ most) }
 {
     let mut width: u64 = 1;
-    while width < most {
-        let next = 2 * width;
-        if most < next {
-            return width;
-        }
-        if count < next * next {
-            return width;
-        }
-        width = next;
+    // A `while`: the width doubles.
+    while 2 * width <= most && 4 * width * width <= count {
+        width *= 2;
     }
     width
 }
@@ -41,17 +35,15 @@ fn cut_dimension(sizes: &[u64], most: u64) -> usize
     requires sizes { Sizes sizes.now }
     ensures { (result < length sizes.now) × (prod (drop (suc result) sizes.now) ≤ most) }
 {
-    let mut k = sizes.len() - 1;
     let mut span: u64 = 1;
-    while 0 < k {
+    for k in (1..sizes.len()).rev() {
         let next = span * sizes[k];
         if most < next {
             return k;
         }
         span = next;
-        k -= 1;
     }
-    k
+    0
 }
 
 // The cut of the sizes in the order p, for a table of so many offsets.
@@ -61,7 +53,7 @@ pub fn cut_of(sizes: &[u64], p: &[u64], room: u64) -> Cut
     requires sizes { Sizes sizes.now × (prod sizes.now ≤ max_count) }
     ensures { IsCut result sizes.now p.now × (result.wide * result.span ≤ room) }
 {
-    if sizes.len() == 0 {
+    if sizes.is_empty() {
         return Cut {
             dimension: 0,
             place: 0,
@@ -77,8 +69,7 @@ pub fn cut_of(sizes: &[u64], p: &[u64], room: u64) -> Cut
     let span = radix::product(&sizes[next..]);
     let steps = radix::product(&sizes[..next]);
     let size = sizes[dimension];
-    let few = most / span;
-    let wide = if size < few { size } else { few };
+    let wide = size.min(most / span);
     let place = shape::place_of(p, dimension as u64);
     Cut {
         dimension,

@@ -7,127 +7,122 @@ mod rows;
 mod runs;
 mod table;
 
-ghost use Rattle.std.specs.Prelude.{◌≡◌, length};
+ghost use Rattle.std.specs.Prelude.{◌≡◌, [], ◌∷◌, length, Ok};
 ghost use Rattle.refusal.specs.Judge.{judge};
 ghost use Rattle.refusal.specs.Number.{verdict_answer};
-ghost use Rattle.pack.specs.Answers.{with_buffers, store_rules, pack_answer, pack_cells, unpack_answer, unpack_places, store_answer, store_cells, loaded_answer, load_value};
+ghost use Rattle.shape.specs.Shape.{sizes_of};
+ghost use Rattle.tiling.specs.Tiled.{IsTiled};
+ghost use Rattle.layout.specs.Layout.{order_of, lens_of, layout_rules};
+ghost use Rattle.layout.specs.Measured.{IsExtent};
+ghost use Rattle.pack.specs.Answers.{buffer_rule, store_rules, pack_answer, pack_cells, unpack_answer, unpack_places, store_answer, store_cells, loaded_answer, load_value};
+ghost use Rattle.pack.specs.Answers.{MeasuredCall};
 
-use layout::parts::Measured;
+use layout::parts::Extent;
 use layout::{Layout, parts};
-use refusal::{Refusal, Verdict};
+use refusal::Refusal;
 use shape::{Element, Shape};
+use tiling::Tiled;
 
-// The answer of load.
-#[derive(Clone, Copy)]
-pub enum Loaded {
-    Value(u32),
-    Refused(Refusal),
-}
-
-// The rules of a pack or unpack: the measured shape and layout, 1, 3, 4, then 9 for the places lent for elements and for cells.
-fn judge_buffers(g: Measured, elements: usize, cells: usize) -> Verdict
-    ensures { result ≡ with_buffers g.verdict g.extent.count g.extent.padded elements cells }
+// The last rule of a pack or unpack, 9, for the places lent for elements and for cells.
+fn judge_buffers(extent: Extent, elements: usize, cells: usize) -> Result<(), Refusal>
+    ensures { result ≡ judge (buffer_rule extent.count extent.padded elements cells ∷ []) }
 {
-    let verdict = g.verdict;
-    match verdict {
-        Verdict::Done => {
-            if (elements as u64) < g.extent.count {
-                return Verdict::Refused(Refusal::ShortBuffer);
-            }
-            if (cells as u64) < g.extent.padded {
-                return Verdict::Refused(Refusal::ShortBuffer);
-            }
-            Verdict::Done
-        }
-        Verdict::Refused(r) => Verdict::Refused(r),
+    if (elements as u64) < extent.count || (cells as u64) < extent.padded {
+        return Err(Refusal::ShortBuffer);
     }
+    Ok(())
 }
 
 // The rules of a store or load: 1, 3, 4, then 5 for the element and 9 for the cells.
-fn judge_element(shape: Shape, layout: Layout, n: u64, cells: usize) -> Verdict
+fn judge_element(shape: Shape, layout: Layout, n: u64, cells: usize) -> Result<(), Refusal>
     ensures { result ≡ judge (store_rules shape layout n cells) }
 {
-    match layout::judge_layout(shape, layout) {
-        Verdict::Done => {
-            if shape::inner::count_of(shape) <= n {
-                return Verdict::Refused(Refusal::Outside);
-            }
-            if (cells as u64) < layout::inner::padded_cells(shape, layout) {
-                return Verdict::Refused(Refusal::ShortBuffer);
-            }
-            Verdict::Done
-        }
-        Verdict::Refused(r) => Verdict::Refused(r),
+    layout::judge_layout(shape, layout)?;
+    if shape::inner::count_of(shape) <= n {
+        return Err(Refusal::Outside);
+    }
+    if (cells as u64) < layout::inner::padded_cells(shape, layout) {
+        return Err(Refusal::ShortBuffer);
+    }
+    Ok(())
+}
+
+// The order and the physical shape at the fronts of order and dims, and the extent, where a pack or unpack breaks no rule: 1, 3, 4, then 9.
+fn measure_call(
+    shape: Shape,
+    layout: Layout,
+    elements: usize,
+    cells: usize,
+    order: &mut [u64; 6],
+    dims: &mut [u64; 24],
+) -> Result<Extent, Refusal>
+    ensures { MeasuredCall result shape layout elements cells order.new dims.new }
+{
+    let x = parts::measure(
+        shape,
+        layout.rank,
+        &layout.minor_to_major,
+        layout.tiles,
+        &layout.tile_len,
+        &layout.tile,
+        order,
+        dims,
+    )?;
+    judge_buffers(x, elements, cells)?;
+    Ok(x)
+}
+
+// The lists of a shape and a layout, with the order and the physical shape that were measured, to divide plainly.
+fn tiled_of<'a>(
+    shape: &'a Shape,
+    layout: &'a Layout,
+    x: Extent,
+    order: &'a [u64; 6],
+    dims: &'a [u64; 24],
+) -> Tiled<'a>
+    requires judged { judge (layout_rules shape.now layout.now) ≡ Ok tt }
+    requires extent { IsExtent x shape.now layout.now order.now dims.now }
+    ensures { IsTiled result (sizes_of shape.now) (order_of layout.now) (lens_of layout.now) layout.now.tile }
+{
+    Tiled {
+        sizes: &shape.sizes[..shape.rank],
+        order: &order[..shape.rank],
+        lens: &layout.tile_len[..layout.tiles],
+        entries: &layout.tile,
+        dims: &dims[..x.len],
+        multipliers: &[],
     }
 }
 
 // Every element to its cell and 0 into padding; cells past the padded size stay.
-pub fn pack(shape: Shape, layout: Layout, source: &[u32], cells: &mut [u32]) -> Verdict
+pub fn pack(shape: Shape, layout: Layout, source: &[u32], cells: &mut [u32]) -> Result<(), Refusal>
     ensures { (verdict_answer result ≡ pack_answer shape layout source.now cells.old) × (cells.new ≡ pack_cells shape layout source.now cells.old) }
 {
-    let n = layout.rank;
-    let tiles = layout.tiles;
-    let m = layout.minor_to_major;
-    let lens = layout.tile_len;
-    let flat = layout.tile;
-    let mut p = [0u64; 6];
+    let mut order = [0u64; 6];
     let mut dims = [0u64; 24];
-    let g = parts::measure(shape, n, &m, tiles, &lens, &flat, &mut p, &mut dims);
-    let x = g.extent;
-    match judge_buffers(g, source.len(), cells.len()) {
-        Verdict::Done => {
-            let rank = shape.rank;
-            let sizes = shape.sizes;
-            let len = x.len;
-            loops::pack_in(
-                &sizes[..rank],
-                &p[..rank],
-                &lens[..tiles],
-                &flat,
-                &dims[..len],
-                x.count,
-                x.padded,
-                source,
-                cells,
-            );
-            Verdict::Done
-        }
-        Verdict::Refused(r) => Verdict::Refused(r),
-    }
+    let n = source.len();
+    let x = measure_call(shape, layout, n, cells.len(), &mut order, &mut dims)?;
+    let t = tiled_of(&shape, &layout, x, &order, &dims);
+    loops::pack_in(&t, x.count, x.padded, source, cells);
+    Ok(())
 }
 
 // Every element from its cell; places past the element count stay.
-pub fn unpack(shape: Shape, layout: Layout, cells: &[u32], destination: &mut [u32]) -> Verdict
+pub fn unpack(
+    shape: Shape,
+    layout: Layout,
+    cells: &[u32],
+    destination: &mut [u32],
+) -> Result<(), Refusal>
     ensures { (verdict_answer result ≡ unpack_answer shape layout cells.now destination.old) × (destination.new ≡ unpack_places shape layout cells.now destination.old) }
 {
-    let n = layout.rank;
-    let tiles = layout.tiles;
-    let m = layout.minor_to_major;
-    let lens = layout.tile_len;
-    let flat = layout.tile;
-    let mut p = [0u64; 6];
+    let mut order = [0u64; 6];
     let mut dims = [0u64; 24];
-    let g = parts::measure(shape, n, &m, tiles, &lens, &flat, &mut p, &mut dims);
-    let x = g.extent;
-    match judge_buffers(g, destination.len(), cells.len()) {
-        Verdict::Done => {
-            let rank = shape.rank;
-            let sizes = shape.sizes;
-            let len = x.len;
-            loops::unpack_in(
-                &sizes[..rank],
-                &p[..rank],
-                &lens[..tiles],
-                &flat,
-                &dims[..len],
-                x.count,
-                cells,
-                destination,
-            );
-            Verdict::Done
-        }
-        Verdict::Refused(r) => Verdict::Refused(r),
-    }
+    let n = destination.len();
+    let x = measure_call(shape, layout, n, cells.len(), &mut order, &mut dims)?;
+    let t = tiled_of(&shape, &layout, x, &order, &dims);
+    loops::unpack_in(&t, x.count, cells, destination);
+    Ok(())
 }
 
 // One element into its cell; every other cell stays.
@@ -137,31 +132,22 @@ pub fn store(
     element: Element,
     value: u32,
     cells: &mut [u32],
-) -> Verdict
+) -> Result<(), Refusal>
     ensures { (verdict_answer result ≡ store_answer shape layout element.0 cells.old) × (cells.new ≡ store_cells shape layout element.0 value cells.old) }
 {
     let n = element.0;
-    match judge_element(shape, layout, n, cells.len()) {
-        Verdict::Done => {
-            let o = layout::inner::offset_number(shape, layout, n) as usize;
-            cells[o] = value;
-            Verdict::Done
-        }
-        Verdict::Refused(r) => Verdict::Refused(r),
-    }
+    judge_element(shape, layout, n, cells.len())?;
+    let o = layout::inner::offset_number(shape, layout, n) as usize;
+    cells[o] = value;
+    Ok(())
 }
 
 // One element from its cell.
-pub fn load(shape: Shape, layout: Layout, element: Element, cells: &[u32]) -> Loaded
+pub fn load(shape: Shape, layout: Layout, element: Element, cells: &[u32]) -> Result<u32, Refusal>
     ensures { loaded_answer result ≡ load_value shape layout element.0 cells.now }
 {
     let n = element.0;
-    match judge_element(shape, layout, n, cells.len()) {
-        Verdict::Done => {
-            let o = layout::inner::offset_number(shape, layout, n) as usize;
-            let value = cells[o];
-            Loaded::Value(value)
-        }
-        Verdict::Refused(r) => Loaded::Refused(r),
-    }
+    judge_element(shape, layout, n, cells.len())?;
+    let o = layout::inner::offset_number(shape, layout, n) as usize;
+    Ok(cells[o])
 }

@@ -1,6 +1,6 @@
 // Copying along a table of offsets: place by place, or in runs where the table goes on by ones. Inner functions.
 ghost use Rattle.std.specs.Prelude.{◌≡◌, true, ◌+◌, ◌<◌, ◌≤◌, length};
-ghost use Rattle.pack.specs.Rows.{scattered, gathered, Reaches};
+ghost use Rattle.pack.specs.Rows.{scattered, gathered, carried, Reaches, RowRoom};
 ghost use Rattle.pack.specs.Runs.{GoesOn, InRuns, IsPart, copied};
 
 // Runs of fewer places than this are copied place by place.
@@ -10,14 +10,9 @@ const SHORT: usize = 8;
 fn front_run(table: &[u64]) -> usize
     ensures { 0 < result }
 {
-    let mut n: usize = 1;
-    while n < table.len() {
-        if table[n] != n as u64 {
-            return n;
-        }
-        n += 1;
-    }
-    n
+    (1..table.len())
+        .find(|n| table[*n] != *n as u64)
+        .unwrap_or(table.len().max(1))
 }
 
 // Whether n places of the table from j on go on by ones.
@@ -26,18 +21,10 @@ fn goes_on(table: &[u64], j: usize, n: usize) -> bool
     ensures { result ≡ true → GoesOn table.now j n }
 {
     let first = table[j];
-    let mut i: usize = 0;
-    while i < n {
-        let t = table[j + i];
-        if t < first {
-            return false;
-        }
-        if t - first != i as u64 {
-            return false;
-        }
-        i += 1;
-    }
-    true
+    table[j..j + n]
+        .iter()
+        .enumerate()
+        .all(|(i, t)| *t >= first && *t - first == i as u64)
 }
 
 // How many places of a run from place j on are among the first so many.
@@ -45,11 +32,7 @@ fn run_from(j: usize, run: usize, len: usize) -> usize
     requires { (0 < run) × (j < len) }
     ensures { IsPart j run len result }
 {
-    let left = len - j;
-    if left < run {
-        return left;
-    }
-    run
+    run.min(len - j)
 }
 
 // Whether the table goes on by ones in runs of so many places.
@@ -58,6 +41,7 @@ fn in_runs(table: &[u64], run: usize) -> bool
     ensures { result ≡ true → InRuns run table.now }
 {
     let mut j: usize = 0;
+    // A `while`: the last run may be shorter.
     while j < table.len() {
         let n = run_from(j, run, table.len());
         if !goes_on(table, j, n) {
@@ -73,13 +57,11 @@ pub fn run_length(table: &[u64]) -> usize
     ensures { (0 < result) × InRuns result table.now }
 {
     let run = front_run(table);
-    if run < SHORT {
-        return 1;
+    if SHORT <= run && in_runs(table, run) {
+        run
+    } else {
+        1
     }
-    if in_runs(table, run) {
-        return run;
-    }
-    1
 }
 
 // n values from place a of the source on to the places from o on of the target.
@@ -87,36 +69,26 @@ fn copy_values(source: &[u32], a: usize, n: usize, o: usize, target: &mut [u32])
     requires { (a + n ≤ length source.now) × (o + n ≤ length target.old) }
     ensures { target.new ≡ copied source.now a n o target.old }
 {
-    let mut i: usize = 0;
-    while i < n {
-        target[o + i] = source[a + i];
-        i += 1;
-    }
+    target[o..o + n].copy_from_slice(&source[a..a + n]);
 }
 
 // The values from place a on to the cells that the table names, counted from base.
-pub fn scatter(source: &[u32], a: usize, table: &[u64], base: u64, cells: &mut [u32])
+fn scatter(source: &[u32], a: usize, table: &[u64], base: u64, cells: &mut [u32])
     requires { (a + length table.now ≤ length source.now) × Reaches base table.now (length cells.old) }
     ensures { cells.new ≡ scattered source.now base table.now a cells.old }
 {
-    let mut j: usize = 0;
-    while j < table.len() {
-        let o = (base + table[j]) as usize;
-        cells[o] = source[a + j];
-        j += 1;
+    for (j, t) in table.iter().enumerate() {
+        cells[(base + *t) as usize] = source[a + j];
     }
 }
 
 // The cells that the table names, counted from base, to the places from a on.
-pub fn gather(cells: &[u32], table: &[u64], base: u64, a: usize, destination: &mut [u32])
+fn gather(cells: &[u32], a: usize, table: &[u64], base: u64, destination: &mut [u32])
     requires { (a + length table.now ≤ length destination.old) × Reaches base table.now (length cells.now) }
     ensures { destination.new ≡ gathered cells.now base table.now a destination.old }
 {
-    let mut j: usize = 0;
-    while j < table.len() {
-        let o = (base + table[j]) as usize;
-        destination[a + j] = cells[o];
-        j += 1;
+    for (j, t) in table.iter().enumerate() {
+        destination[a + j] = cells[(base + *t) as usize];
     }
 }
 
@@ -127,6 +99,7 @@ fn scatter_runs(source: &[u32], a: usize, table: &[u64], run: usize, base: u64, 
     ensures { cells.new ≡ scattered source.now base table.now a cells.old }
 {
     let mut j: usize = 0;
+    // A `while`: the last run may be shorter.
     while j < table.len() {
         let n = run_from(j, run, table.len());
         let o = (base + table[j]) as usize;
@@ -138,10 +111,10 @@ fn scatter_runs(source: &[u32], a: usize, table: &[u64], run: usize, base: u64, 
 // The cells that the table names to the places from a on, run by run.
 fn gather_runs(
     cells: &[u32],
+    a: usize,
     table: &[u64],
     run: usize,
     base: u64,
-    a: usize,
     destination: &mut [u32],
 )
     requires table_in_bounds { (a + length table.now ≤ length destination.old) × Reaches base table.now (length cells.now) }
@@ -149,6 +122,7 @@ fn gather_runs(
     ensures { destination.new ≡ gathered cells.now base table.now a destination.old }
 {
     let mut j: usize = 0;
+    // A `while`: the last run may be shorter.
     while j < table.len() {
         let n = run_from(j, run, table.len());
         let o = (base + table[j]) as usize;
@@ -157,35 +131,32 @@ fn gather_runs(
     }
 }
 
-// A row's values to their cells: run by run where the runs are long.
-pub fn store_row(source: &[u32], a: usize, table: &[u64], run: usize, base: u64, cells: &mut [u32])
-    requires table_in_bounds { (a + length table.now ≤ length source.now) × Reaches base table.now (length cells.old) }
-    requires run_nonzero { (0 < run) × InRuns run table.now }
-    ensures { cells.new ≡ scattered source.now base table.now a cells.old }
-{
-    if run < SHORT {
-        scatter(source, a, table, base, cells);
-    } else {
-        scatter_runs(source, a, table, run, base, cells);
-    }
-}
-
-// A row's values from their cells, the same.
-pub fn load_row(
-    cells: &[u32],
+// A row carried, to its cells in packing and from them in unpacking: run by run where the runs are long.
+pub fn carry_row(
+    packs: bool,
+    from: &[u32],
+    a: usize,
     table: &[u64],
     run: usize,
     base: u64,
-    a: usize,
-    destination: &mut [u32],
+    to: &mut [u32],
 )
-    requires table_in_bounds { (a + length table.now ≤ length destination.old) × Reaches base table.now (length cells.now) }
+    requires room { RowRoom packs from.now base table.now a to.old }
     requires run_nonzero { (0 < run) × InRuns run table.now }
-    ensures { destination.new ≡ gathered cells.now base table.now a destination.old }
+    ensures { to.new ≡ carried packs from.now base table.now a to.old }
 {
-    if run < SHORT {
-        gather(cells, table, base, a, destination);
+    let short = run < SHORT;
+    if packs {
+        if short {
+            scatter(from, a, table, base, to);
+        } else {
+            scatter_runs(from, a, table, run, base, to);
+        }
     } else {
-        gather_runs(cells, table, run, base, a, destination);
+        if short {
+            gather(from, a, table, base, to);
+        } else {
+            gather_runs(from, a, table, run, base, to);
+        }
     }
 }

@@ -1,8 +1,7 @@
 // The plain loop for a benchmark: one offset for each element, by plain division or through the lent multipliers.
-ghost use Rattle.std.specs.Prelude.{◌≡◌, ◌≤◌, length};
+ghost use Rattle.std.specs.Prelude.{◌≡◌, ◌≤◌, length, Ok};
 ghost use Rattle.radix.specs.Radix.{prod};
 ghost use Rattle.refusal.specs.Judge.{judge};
-ghost use Rattle.refusal.specs.declared.Verdict.TheVariants.{Done};
 ghost use Rattle.reciprocal.specs.Multiplier.{AreMultipliers};
 ghost use Rattle.shape.specs.Shape.{count_of};
 ghost use Rattle.tiling.specs.Tile.{tiles_from, padded};
@@ -12,17 +11,7 @@ ghost use Rattle.layout.specs.Layout.{layout_rules, padded_of};
 use layout::Layout;
 use reciprocal::inner;
 use shape::Shape;
-
-// 0 in the first n places.
-fn clear(cells: &mut [u32], n: usize)
-    requires { n ≤ length cells.old }
-{
-    let mut i: usize = 0;
-    while i < n {
-        cells[i] = 0;
-        i += 1;
-    }
-}
+use tiling::Tiled;
 
 // Every element to its cell, 0 in padding, divided through the multipliers m.
 fn plain_in(
@@ -39,38 +28,33 @@ fn plain_in(
     requires sizes_in_bounds { (prod sizes.now ≤ length source.now) × (padded sizes.now p.now (tiles_from lens.now flat.now) ≤ length cells.old) }
 {
     let d = tiling::physical_dims(sizes, p, lens, flat);
-    let at = d.at;
-    let len = d.len;
-    let size = radix::product(&at[..len]) as usize;
-    let count = radix::product(sizes);
-    clear(cells, size);
-    let mut n: u64 = 0;
-    while n < count {
-        let o = tiling::offset_by(sizes, p, lens, flat, &at[..len], n, m) as usize;
-        let k = n as usize;
-        cells[o] = source[k];
-        n += 1;
+    let t = Tiled {
+        sizes,
+        order: p,
+        lens,
+        entries: flat,
+        dims: &d.at[..d.len],
+        multipliers: m,
+    };
+    let size = radix::product(t.dims) as usize;
+    cells[..size].fill(0);
+    for n in 0..radix::product(sizes) {
+        cells[t.offset(n) as usize] = source[n as usize];
     }
 }
 
 // The same from the records.
 fn plain_all(shape: Shape, layout: Layout, source: &[u32], cells: &mut [u32], m: &[u64])
     requires are_multipliers { AreMultipliers m.now }
-    requires layout_value { (judge (layout_rules shape layout) ≡ Done) × (count_of shape ≤ length source.now) × (padded_of shape layout ≤ length cells.old) }
+    requires layout_value { (judge (layout_rules shape layout) ≡ Ok tt) × (count_of shape ≤ length source.now) × (padded_of shape layout ≤ length cells.old) }
 {
-    let rank = shape.rank;
-    let tiles = layout.tiles;
-    let sizes = shape.sizes;
-    let minor = layout.minor_to_major;
-    let lens = layout.tile_len;
-    let flat = layout.tile;
     let mut order = [0u64; 6];
-    tiling::reverse_into(&minor[..rank], &mut order);
+    tiling::reverse_into(&layout.minor_to_major[..shape.rank], &mut order);
     plain_in(
-        &sizes[..rank],
-        &order[..rank],
-        &lens[..tiles],
-        &flat,
+        &shape.sizes[..shape.rank],
+        &order[..shape.rank],
+        &layout.tile_len[..layout.tiles],
+        &layout.tile,
         source,
         cells,
         m,
@@ -79,17 +63,15 @@ fn plain_all(shape: Shape, layout: Layout, source: &[u32], cells: &mut [u32], m:
 
 // With the whole table lent.
 pub fn by_table(shape: Shape, layout: Layout, source: &[u32], cells: &mut [u32])
-    requires { (judge (layout_rules shape layout) ≡ Done) × (count_of shape ≤ length source.now) × (padded_of shape layout ≤ length cells.old) }
+    requires { (judge (layout_rules shape layout) ≡ Ok tt) × (count_of shape ≤ length source.now) × (padded_of shape layout ≤ length cells.old) }
 {
-    let table = inner::multipliers();
-    let m = table.at;
-    plain_all(shape, layout, source, cells, &m);
+    let m = inner::multipliers();
+    plain_all(shape, layout, source, cells, &m.at);
 }
 
 // With an empty one, so that every number is divided plainly.
 pub fn by_division(shape: Shape, layout: Layout, source: &[u32], cells: &mut [u32])
-    requires { (judge (layout_rules shape layout) ≡ Done) × (count_of shape ≤ length source.now) × (padded_of shape layout ≤ length cells.old) }
+    requires { (judge (layout_rules shape layout) ≡ Ok tt) × (count_of shape ≤ length source.now) × (padded_of shape layout ≤ length cells.old) }
 {
-    let none = [0u64; 1];
-    plain_all(shape, layout, source, cells, &none[..0]);
+    plain_all(shape, layout, source, cells, &[]);
 }

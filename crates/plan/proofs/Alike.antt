@@ -1,14 +1,15 @@
 -- Two nets that agree on the stations and places that there are have the same least cost and the same best plan. Assumes nothing.
+use Rattle.std.specs.Prelude.{Option, Some, None}
 use Prim.Native.Nat.{ℕ, zero, suc, ◌+◌, ◌*◌, ◌-◌, ◌≤◌, ◌<◌}
 use mathlib.Core.Path.{◌≡◌, refl, ap, ap₂, ◌∙◌}
-use mathlib.Core.Bool.{true, false}
+use mathlib.Core.Bool.{cond}
 use mathlib.Core.List.{List, ◌∷◌}
 use native.Mathlib.Omega.{arith}
 use lib.Dec.{ltb}
-use lib.ListN.{replicate}
 use Rattle.plan.specs.Net.{Net, Coming, price, still, after}
 use Rattle.plan.specs.Value.{far, least_of, place_of, through, value_of, choice, plan_of, least_cost, best_plan}
-use Rattle.plan.specs.Answer.{max_stations, spread, plan_answer, pick_plan}
+use Rattle.plan.specs.Answer.{spread, plan_answer}
+use Rattle.plan.specs.declared.Plan.{Plan}
 use Rattle.plan.proofs.Scan.{Same, least-agree, place-agree, through-agree, place-low}
 use Rattle.plan.proofs.Optimal.{rest}
 
@@ -98,7 +99,6 @@ module _ (N N' : Net) (A : Alike N N') where
   unfolding plan_answer
   answer-alike moves =
       ap₂
-      (λ (c : ℕ) (p : List ℕ).
-      pick_plan (ltb c far) (record { found = true; places = p; total = c }) (record { found = false; places = replicate max_stations 0; total = 0 }))
+      (λ (c : ℕ) (p : List ℕ). cond {A = Option Plan} (ltb c far) (Some (record { places = p; total = c })) None)
       (cost-alike moves)
       (ap₂ spread A.stations (best-alike moves))

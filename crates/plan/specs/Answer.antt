@@ -1,5 +1,5 @@
--- The planner's answer: the best plan and its cost with zeros in the unused places, or zeros where no plan is admitted. Assumes nothing.
-use Rattle.std.specs.Prelude.{ℕ, ◌-◌, Bool, true, false, List, ◌++◌, replicate}
+-- The planner's answer: the best plan and its cost with zeros in the unused places, or none where no plan is admitted. Assumes nothing.
+use Rattle.std.specs.Prelude.{ℕ, ◌-◌, cond, Option, Some, None, List, ◌++◌, replicate}
 use Rattle.plan.specs.Net.{Net}
 use Rattle.plan.specs.Value.{least_cost, best_plan, has_plan}
 use Rattle.plan.specs.declared.Plan.{Plan}
@@ -12,12 +12,8 @@ max_stations = 64
 abbrev pub spread : ℕ → List ℕ → List ℕ
 spread n p = p ++ replicate (max_stations - n) 0
 
-abbrev pub pick_plan : Bool → Plan → Plan → Plan
-pick_plan true a b = a
-pick_plan false a b = b
-
-unfoldable pub plan_answer : Net → ℕ → Plan
+unfoldable pub plan_answer : Net → ℕ → Option Plan
 plan_answer N moves =
-    pick_plan (has_plan N moves)
-    (record { found = true; places = spread N.stations (best_plan N moves); total = least_cost N moves })
-    (record { found = false; places = replicate max_stations 0; total = 0 })
+    cond (has_plan N moves)
+    (Some (record { places = spread N.stations (best_plan N moves); total = least_cost N moves }))
+    None

@@ -2,10 +2,9 @@
 // a plan. An inner part of the library.
 #![tactic(auto)]
 
-// The best plan, one place a station, and its cost; zeros where no plan is found.
+// The best plan, one place a station, and its cost.
 #[derive(Clone, Copy)]
 pub struct Plan {
-    pub found: bool,
     pub places: [usize; 64],
     pub total: u64,
 }

@@ -1,22 +1,19 @@
 -- What a loop over a list keeps: the answer of what is left of it. Assumes nothing.
 use mathlib.Core.Path.{◌≡◌, sym, ap, ◌∙◌}
 use Prim.Native.Nat.{ℕ, suc, ◌+◌, ◌*◌, ◌/◌, ◌%◌, ◌<◌, ◌≤◌}
-use native.Mathlib.Nat.{mul_assoc, mul_comm, mul-one, suc-mul, add-mul, add_assoc, add-zero, mul-pos, le-mul_of_pos_right, mul-le-mul_right}
+use native.Mathlib.Nat.{mul_assoc, mul_comm, suc-mul, add-mul, add_assoc, add-zero, mul-pos, le-mul_of_pos_right, mul-le-mul_right}
 use native.Mathlib.Nat.{div-add-mod', div-div-eq-div-mul, div-eq_of_lt, mod-eq_of_lt, mod-lt, mod-mod, mul-add-div_right, mul-add-mod_self_right}
 use native.Mathlib.Numerals.{add-one}
 use native.Mathlib.Omega.{arith}
 use mathlib.Core.List.{List, [], ◌∷◌, ◌++◌}
-use lib.ListN.{length, get_or, drop, drop_of_length-le, length-drop, length-set, set}
+use lib.ListN.{length, get_or, drop, length-drop, length-set, set}
 use lib.Seq.{drop-cons, drop-set-lt, get_or-drop, get_or-set_same}
 use Rattle.radix.specs.Radix.{prod, row_major, digits, In, Sizes, Bounded}
 use Rattle.radix.proofs.Lists.{rest-of}
-use Rattle.radix.proofs.Radix.{in-drop, in-length, below}
+use Rattle.radix.proofs.Radix.{in-drop, below}
 
 pub prod-rest : (ds : List ℕ) (acc i : ℕ) → i < length ds → acc * prod (drop i ds) ≡ acc * get_or ds i 0 * prod (drop (i + 1) ds)
 prod-rest ds acc i h = rw (drop-cons ds i 0 h, add-one, mul_assoc)
-
-pub prod-end : (ds : List ℕ) (acc i : ℕ) → length ds ≤ i → acc * prod (drop i ds) ≡ acc
-prod-end ds acc i h = rw (drop_of_length-le ds h, mul-one)
 
 pub prod-pos : (ds : List ℕ) → ((k : ℕ) → k < length ds → 0 < get_or ds k 0) → 0 < prod ds
 prod-pos [] h = omega arith
@@ -27,23 +24,23 @@ pub rest-pos : (ds : List ℕ) (i : ℕ) → Sizes ds → 0 < prod (drop i ds)
 unfolding Bounded
 rest-pos ds i s = prod-pos (drop i ds) (λ k l. rw (get_or-drop) (s (i + k) (omega (arith, length-drop i ds))).0)
 
--- what the row-major loop has still to reach, at acc with the index es inside ds left
-pub row-rest : (ds es : List ℕ) (acc i : ℕ) → i < length ds → i < length es
-    → acc * prod (drop i ds) + row_major (drop i ds) (drop i es)
-    ≡ (acc * get_or ds i 0 + get_or es i 0) * prod (drop (i + 1) ds) + row_major (drop (i + 1) ds) (drop (i + 1) es)
-row-rest ds es acc i h g = rw (drop-cons ds i 0 h, drop-cons es i 0 g, add-one, add-mul, mul_assoc, add_assoc)
+-- what the row-major loop has still to reach: es lies inside ds, and acc with it makes r
+pub record Left (ds es : List ℕ) (acc r : ℕ) : Type 0 where
+  pub fits : In es ds
+  pub makes : acc * prod ds + row_major ds es ≡ r
 
-pub row-end : (ds es : List ℕ) (acc i : ℕ) → length ds ≤ i → acc * prod (drop i ds) + row_major (drop i ds) (drop i es) ≡ acc
-row-end ds es acc i h = rw (drop_of_length-le ds h, mul-one, add-zero)
+-- one size further
+pub row-next : {ds es ds' es' : List ℕ} {d e acc r : ℕ} → ds ≡ d ∷ ds' → es ≡ e ∷ es' → Left ds es acc r → Left ds' es' (acc * d + e) r
+row-next {d = d} {e = e} p q l =
+    let i = rw (p, q) at l.fits in
+    let h = rw (p, q) at l.makes in
+    record { fits = in-drop 1 i; makes = rw (add-mul, mul_assoc, add_assoc) h }
 
--- a turn's number is at most the answer
-pub row-turn : (ds es : List ℕ) (acc i : ℕ) → In es ds → i < length ds
-    → acc * prod (drop i ds) + row_major (drop i ds) (drop i es) ≡ row_major ds es
-    → acc * get_or ds i 0 + get_or es i 0 ≤ row_major ds es
-row-turn ds es acc i n h inv =
-    let g : i < length es = omega (arith, in-length n) in
-    let p : 0 < prod (drop (i + 1) ds) = omega (arith, below (in-drop (i + 1) n)) in
-    omega (arith, row-rest ds es acc i h g, le-mul_of_pos_right (acc * get_or ds i 0 + get_or es i 0) p)
+-- the number so far is at most the answer
+pub row-low : {ds es : List ℕ} {acc r : ℕ} → Left ds es acc r → acc ≤ r
+row-low {ds} {acc = acc} l =
+    let p : 0 < prod ds = omega (arith, below l.fits) in
+    omega (arith, l.makes, le-mul_of_pos_right acc p)
 
 -- what n leaves over d * q: its digit at d, and what it leaves over q
 mod-front : (d q n : ℕ) → 0 < d → 0 < q → n % (d * q) ≡ n / q % d * q + n % q

@@ -17,13 +17,11 @@ pub fn product(ds: &[u64]) -> u64
     ensures { result ≡ min (prod ds.now) (max_count + 1) }
 {
     let mut acc: u64 = 1;
-    let mut i: usize = 0;
-    while i < ds.len() {
-        acc *= ds[i];
+    for d in ds {
+        acc *= *d;
         if acc > MAX_COUNT {
             return ABOVE_COUNT;
         }
-        i += 1;
     }
     acc
 }
@@ -35,10 +33,8 @@ pub fn row_major(ds: &[u64], es: &[u64]) -> u64
     ensures { result ≡ row_major ds.now es.now }
 {
     let mut acc: u64 = 0;
-    let mut i: usize = 0;
-    while i < ds.len() {
-        acc = acc * ds[i] + es[i];
-        i += 1;
+    for (d, e) in ds.iter().zip(es) {
+        acc = acc * *d + *e;
     }
     acc
 }
@@ -50,12 +46,10 @@ pub fn digits_into(ds: &[u64], n: u64, out: &mut [u64])
     ensures { out.new ≡ digits ds.now n ++ drop (length ds.now) out.old }
 {
     let mut k = n;
-    let mut i = ds.len();
-    while 0 < i {
-        i -= 1;
+    for i in (0..ds.len()).rev() {
         let d = ds[i];
         out[i] = k % d;
-        k = k / d;
+        k /= d;
     }
 }
 
@@ -63,17 +57,7 @@ pub fn digits_into(ds: &[u64], n: u64, out: &mut [u64])
 pub fn within(xs: &[u64], most: u64) -> bool
     ensures { result ≡ is_within most xs.now }
 {
-    let mut i: usize = 0;
-    while i < xs.len() {
-        if xs[i] < 1 {
-            return false;
-        }
-        if most < xs[i] {
-            return false;
-        }
-        i += 1;
-    }
-    true
+    xs.iter().all(|x| 1 <= *x && *x <= most)
 }
 
 // Each coordinate of es lies below its size in ds, of which there are as many.
@@ -81,12 +65,5 @@ pub fn inside(es: &[u64], ds: &[u64]) -> bool
     requires { length es.now ≡ length ds.now }
     ensures { result ≡ is_inside es.now ds.now }
 {
-    let mut i: usize = 0;
-    while i < es.len() {
-        if ds[i] <= es[i] {
-            return false;
-        }
-        i += 1;
-    }
-    true
+    es.iter().zip(ds).all(|(e, d)| e < d)
 }

@@ -1,64 +1,68 @@
 // The buffers that a request lends: their lengths, as its line has them, and their places.
-use crate::pieces::{Unsigned, read_bounded};
-use crate::token::{Cursor, has_more};
+ghost use Rattle.std.specs.Prelude.{◌≡◌, ℕ, ◌+◌, ◌<◌, ◌≤◌, IfOk, length, slice_index, take};
+
+use crate::token::{Line, Unreadable};
 
 // The most places that a buffer has, and as many as it has where the request says nothing.
-const PLACES: u64 = 4096;
+pub const PLACES: usize = 4096;
 
 // The lengths of the buffer that is read and of the one that is written.
 #[derive(Clone, Copy)]
 pub struct Lengths {
-    pub given: u64,
-    pub made: u64,
-    pub next: Cursor,
+    pub given: usize,
+    pub made: usize,
 }
 
-// The length of a buffer, or the most where the request ends.
-pub fn read_length(line: &[u8], from: Cursor) -> Unsigned {
-    if has_more(line, from) {
-        return read_bounded(line, from, PLACES);
+impl<'a> Line<'a> {
+    // Reads the length of a buffer.
+    fn length_given(&mut self) -> Result<usize, Unreadable>
+        ensures { IfOk result (λ count. count ≤ PLACES) }
+    {
+        let length = self.bounded(PLACES as u64)?;
+        Ok(length as usize)
     }
-    Unsigned {
-        value: PLACES,
-        next: from,
-    }
-}
 
-// The lengths of two buffers, or the most for both where the request ends.
-pub fn read_lengths(line: &[u8], from: Cursor) -> Lengths {
-    if has_more(line, from) {
-        let given = read_bounded(line, from, PLACES);
-        let made = read_bounded(line, given.next, PLACES);
-        let next = made.next;
-        return Lengths {
-            given: given.value,
-            made: made.value,
-            next,
-        };
+    // Reads the length of a buffer, or nothing where the request ends.
+    pub fn buffer_length(&mut self) -> Result<usize, Unreadable>
+        ensures { IfOk result (λ count. count ≤ PLACES) }
+    {
+        if self.has_more() {
+            self.length_given()
+        } else {
+            Ok(PLACES)
+        }
     }
-    Lengths {
-        given: PLACES,
-        made: PLACES,
-        next: from,
+
+    // Reads the lengths of two buffers, or nothing where the request ends.
+    pub fn buffer_lengths(&mut self) -> Result<Lengths, Unreadable>
+        ensures { IfOk result (λ lengths. (lengths.given ≤ PLACES) × (lengths.made ≤ PLACES)) }
+    {
+        if !self.has_more() {
+            return Ok(Lengths {
+                given: PLACES,
+                made: PLACES,
+            });
+        }
+        let given = self.length_given()?;
+        let made = self.length_given()?;
+        Ok(Lengths { given, made })
     }
 }
 
 // The first places of a buffer, all where there are fewer.
-pub fn front(buffer: &mut [u32], count: u64) -> &mut [u32] {
-    let n = count as usize;
-    if n <= buffer.len() {
-        return &mut buffer[0..n];
-    }
-    buffer
+pub fn front(buffer: &mut [u32], count: usize) -> &mut [u32]
+    ensures { result.now ≡ take count buffer.old }
+{
+    let most = buffer.len();
+    &mut buffer[..count.min(most)]
 }
 
-// Puts start, start + step, .. into the places.
-pub fn fill(places: &mut [u32], start: u32, step: u32) {
-    let mut next = start;
-    let mut i = 0;
-    while i < places.len() {
-        places[i] = next;
-        next = std::num::wrapping_add_u32(next, step);
-        i += 1;
+// Puts start, start + 1, .. into the places.
+pub fn count_up(places: &mut [u32], start: u32)
+    ensures { (k : ℕ) → k < length places.new → start + k < u32.MAX → slice_index places.new k ≡ start + k }
+{
+    let count = places.len().min((u32::MAX - start) as usize);
+    for place in 0..count {
+        places[place] = start + place as u32;
     }
 }

@@ -5,13 +5,6 @@ mod buffers;
 mod pieces;
 mod token;
 
-pub use buffers::{Lengths, fill, front, read_length, read_lengths};
-pub use pieces::{
-    LayoutRead, List, NumbersRead, ShapeRead, Unsigned, first_of, no_layout, put_at, read_bounded,
-    read_layout, read_list, read_point, read_shape, read_table, read_unsigned,
-};
-pub use token::{
-    Cursor, Number, Word, byte_at, digits_end, expect, expect_hyphenated, expect_word, failed,
-    finish, has_more, is_digit, is_hyphenated, is_next, is_number_before, is_word, one_more, part,
-    read_number, read_word, same, skip, value_of,
-};
+pub use buffers::{Lengths, PLACES, count_up, front};
+pub use pieces::{List, first_of, no_layout, put_at};
+pub use token::{Line, Unreadable, count_digits, same};

@@ -1,38 +1,22 @@
 // The tokens of a line: bytes, words and numbers, with spaces between them.
-ghost use Rattle.std.specs.Prelude.{◌≡◌, ◌↔◌, IsTrue};
+ghost use Rattle.std.specs.Prelude.{◌≡◌, ℕ, ◌+◌, ◌<◌, ◌≤◌, ◌↔◌, IsTrue, IsOk, IfOk, IfErr, length, drop, take, slice_get, slice_index};
 
-// A place in a line. Once ok is false it stays at the token that cannot be read.
-#[derive(Clone, Copy)]
-pub struct Cursor {
-    pub at: usize,
-    pub ok: bool,
+use std::error::Error;
+use std::{fmt, str};
+
+// The place of the token that cannot be read.
+#[derive(Clone, Copy, Debug, PartialEq, Eq)]
+pub struct Unreadable(pub usize);
+
+// Columns count from 1.
+impl fmt::Display for Unreadable {
+    fn fmt<W: fmt::Write>(&self, f: &mut fmt::Formatter<W>) -> fmt::Result {
+        let column = self.0.saturating_add(1);
+        write!(f, "cannot read the request at column {column}")
+    }
 }
 
-// A number is at most 2^63 - 1, or where it is negative at most 2^63 below zero.
-#[derive(Clone, Copy)]
-pub struct Number {
-    pub negative: bool,
-    pub magnitude: u64,
-    pub next: Cursor,
-}
-
-// A word is the bytes from start to end, none where start is end.
-#[derive(Clone, Copy)]
-pub struct Word {
-    pub start: usize,
-    pub end: usize,
-}
-
-// The kinds of byte of which a token, or the room between two, may have several. Each is a bit, so that a sum of them is a set.
-const SPACE: u8 = 1;
-
-const LETTER: u8 = 2;
-
-const DIGIT: u8 = 4;
-
-const HYPHEN: u8 = 8;
-
-const OTHER: u8 = 16;
+impl Error for Unreadable {}
 
 // Whether two slices have the same bytes.
 pub fn same(left: &[u8], right: &[u8]) -> bool
@@ -41,219 +25,259 @@ pub fn same(left: &[u8], right: &[u8]) -> bool
     left == right
 }
 
-// The byte at a place, and past the end of the line a line's end.
-pub fn byte_at(line: &[u8], at: usize) -> u8 {
-    if at < line.len() { line[at] } else { b'\n' }
+// How many spaces the bytes start with.
+fn count_spaces(bytes: &[u8]) -> usize
+    ensures within { result ≤ length bytes.now }
+    ensures spaces { (k : ℕ) → k < result → slice_index bytes.now k ≡ 32 }
+{
+    bytes
+        .iter()
+        .position(|byte| *byte != b' ')
+        .unwrap_or(bytes.len())
 }
 
-pub fn one_more(n: usize) -> usize {
-    if n < usize::MAX { n + 1 } else { n }
+// How many digits the bytes start with.
+pub fn count_digits(bytes: &[u8]) -> usize
+    ensures { result ≤ length bytes.now }
+{
+    bytes
+        .iter()
+        .position(|byte| !byte.is_ascii_digit())
+        .unwrap_or(bytes.len())
 }
 
-fn kind_of(byte: u8) -> u8 {
-    match byte {
-        b' ' => SPACE,
-        b'a'..=b'z' | b'A'..=b'Z' => LETTER,
-        b'0'..=b'9' => DIGIT,
-        b'-' => HYPHEN,
-        _ => OTHER,
+// How many letters the bytes start with.
+fn count_letters(bytes: &[u8]) -> usize {
+    bytes
+        .iter()
+        .position(|byte| !byte.is_ascii_alphabetic())
+        .unwrap_or(bytes.len())
+}
+
+// How many letters and hyphens the bytes start with.
+fn count_hyphenated(bytes: &[u8]) -> usize {
+    bytes
+        .iter()
+        .position(|byte| !byte.is_ascii_alphabetic() && *byte != b'-')
+        .unwrap_or(bytes.len())
+}
+
+// A line and how far it is read: up to the start of its next token, or to its end.
+#[derive(Clone, Copy)]
+pub struct Line<'a> {
+    pub bytes: &'a [u8],
+    pub at: usize,
+    ghost within: { at ≤ length bytes.now },
+}
+
+impl<'a> Line<'a> {
+    // A line of which nothing is read.
+    pub fn new(bytes: &'a [u8]) -> Line<'a>
+        ensures { result.bytes.now ≡ bytes.now }
+    {
+        let mut line = Line { bytes, at: 0 };
+        line.take(0);
+        line
     }
-}
 
-pub fn is_digit(byte: u8) -> bool {
-    kind_of(byte) == DIGIT
-}
+    // How many bytes the whole line has. No more pieces than that can be read from it, since each has a byte at least.
+    pub fn length(&self) -> usize
+        ensures { result ≡ length self.now.bytes.now }
+    {
+        self.bytes.len()
+    }
 
-// Where the run of bytes of those kinds ends that starts at a place.
-fn run_end(line: &[u8], at: usize, kinds: u8) -> usize {
-    let mut i = at;
-    while i < line.len() {
-        if kind_of(line[i]) & kinds == 0 {
-            return i;
+    // Where the next token starts.
+    pub fn place(&self) -> usize
+        ensures { result ≡ self.now.at }
+    {
+        self.at
+    }
+
+    // The next token as one that cannot be read.
+    pub fn unreadable(&self) -> Unreadable
+        ensures { result.0 ≡ self.now.at }
+    {
+        Unreadable(self.at)
+    }
+
+    // What is not read yet.
+    pub fn rest(&self) -> &'a [u8]
+        ensures { result.now ≡ drop self.now.at self.now.bytes.now }
+    {
+        &self.bytes[self.at..]
+    }
+
+    // Reads a token of as many bytes, or as there are, and the spaces behind it.
+    pub fn take(&mut self, count: usize) -> &'a [u8]
+        ensures part { result.now ≡ take count (drop self.old.at self.old.bytes.now) }
+        ensures kept { self.new.bytes.now ≡ self.old.bytes.now }
+        ensures forward { self.old.at + length result.now ≤ self.new.at }
+        ensures spaces { (k : ℕ) → self.old.at + length result.now + k < self.new.at → slice_index (drop (self.old.at + length result.now) self.old.bytes.now) k ≡ 32 }
+    {
+        let start = self.at;
+        let end = start + count.min(self.bytes.len() - start);
+        self.at = end + count_spaces(&self.bytes[end..]);
+        &self.bytes[start..end]
+    }
+
+    // Whether the next token is that byte.
+    pub fn is_next(&self, byte: u8) -> bool
+        ensures { IsTrue result ↔ (slice_get self.now.bytes.now self.now.at ≡ Some byte) }
+    {
+        self.rest().first() == Some(&byte)
+    }
+
+    // Whether the next token starts as a number does.
+    pub fn is_number_next(&self) -> bool {
+        matches!(self.rest(), [b'-' | b'0'..=b'9', ..])
+    }
+
+    // Reads the next token if it is that byte, and answers whether it is.
+    pub fn accept(&mut self, byte: u8) -> bool
+        ensures answer { IsTrue result ↔ (slice_get self.old.bytes.now self.old.at ≡ Some byte) }
+        ensures kept { self.new.bytes.now ≡ self.old.bytes.now }
+        ensures forward { self.old.at ≤ self.new.at }
+        ensures moves { IsTrue result → self.old.at < self.new.at }
+        ensures stays { ¬ IsTrue result → self.new.at ≡ self.old.at }
+    {
+        let is_next = self.is_next(byte);
+        if is_next {
+            self.take(1);
         }
-        i += 1;
+        is_next
     }
-    i
-}
 
-// Where the next token starts.
-pub fn skip(line: &[u8], at: usize) -> usize {
-    run_end(line, at, SPACE)
-}
-
-// Where the digits end that start at a place.
-pub fn digits_end(line: &[u8], at: usize) -> usize {
-    run_end(line, at, DIGIT)
-}
-
-// The word at the next token.
-pub fn read_word(line: &[u8], at: usize) -> Word {
-    let start = skip(line, at);
-    Word {
-        start,
-        end: run_end(line, start, LETTER),
-    }
-}
-
-// The letters and hyphens at the next token.
-fn read_hyphenated(line: &[u8], at: usize) -> Word {
-    let start = skip(line, at);
-    Word {
-        start,
-        end: run_end(line, start, LETTER + HYPHEN),
-    }
-}
-
-// The bytes from start to end.
-pub fn part(line: &[u8], start: usize, end: usize) -> &[u8] {
-    if start <= end {
-        if end <= line.len() {
-            return &line[start..end];
+    // Reads the next token, which is that byte.
+    pub fn expect(&mut self, byte: u8) -> Result<(), Unreadable>
+        ensures ok { IsOk result ↔ (slice_get self.old.bytes.now self.old.at ≡ Some byte) }
+        ensures kept { self.new.bytes.now ≡ self.old.bytes.now }
+        ensures forward { self.old.at ≤ self.new.at }
+        ensures err { IfErr result (λ e. (e.0 ≡ self.old.at) × (self.new.at ≡ self.old.at)) }
+    {
+        if self.accept(byte) {
+            Ok(())
+        } else {
+            Err(self.unreadable())
         }
     }
-    &line[..0]
-}
 
-// The value with a digit behind it, or a number above 2^63 where it would be too large. The last
-// four bits of a digit's byte are its value.
-fn with_digit(value: u64, digit: u8) -> u64 {
-    if 922337203685477580 < value {
-        return u64::MAX;
+    // Reads the letters at the next token.
+    pub fn word(&mut self) -> &'a [u8]
+        ensures part { result.now ≡ take (length result.now) (drop self.old.at self.old.bytes.now) }
+        ensures kept { self.new.bytes.now ≡ self.old.bytes.now }
+        ensures forward { self.old.at + length result.now ≤ self.new.at }
+    {
+        self.take(count_letters(self.rest()))
     }
-    value * 10 + wide(digit) % 16
-}
 
-fn wide(x: u8) -> u64 {
-    x as u64
-}
-
-// The value of the digits from start to end, or a number above 2^63.
-pub fn value_of(line: &[u8], start: usize, end: usize) -> u64 {
-    let mut value = 0;
-    let mut i = start;
-    while i < end {
-        value = with_digit(value, byte_at(line, i));
-        i += 1;
+    // Reads the letters and hyphens at the next token.
+    pub fn hyphenated(&mut self) -> &'a [u8]
+        ensures part { result.now ≡ take (length result.now) (drop self.old.at self.old.bytes.now) }
+        ensures kept { self.new.bytes.now ≡ self.old.bytes.now }
+        ensures forward { self.old.at + length result.now ≤ self.new.at }
+    {
+        self.take(count_hyphenated(self.rest()))
     }
-    value
-}
 
-// Whether a value with that sign fits 64 signed bits.
-fn fits(negative: bool, value: u64) -> bool {
-    if negative {
-        value <= 9223372036854775808
-    } else {
-        value < 9223372036854775808
+    // Whether the next token is that word.
+    pub fn is_word_next(&self, word: &[u8]) -> bool {
+        let mut ahead = *self;
+        same(ahead.word(), word)
     }
-}
 
-// The cursor with the token at a place found unreadable.
-pub fn failed(at: usize) -> Cursor {
-    Cursor { at, ok: false }
-}
-
-fn no_number(next: Cursor) -> Number {
-    Number {
-        negative: false,
-        magnitude: 0,
-        next,
+    // Reads the next token, which is that word.
+    pub fn expect_word(&mut self, word: &[u8]) -> Result<(), Unreadable>
+        ensures kept { self.new.bytes.now ≡ self.old.bytes.now }
+        ensures forward { self.old.at ≤ self.new.at }
+        ensures err { IfErr result (λ e. e.0 ≡ self.old.at) }
+    {
+        let at = self.unreadable();
+        if same(self.word(), word) {
+            Ok(())
+        } else {
+            Err(at)
+        }
     }
-}
 
-pub fn read_number(line: &[u8], from: Cursor) -> Number {
-    if !from.ok {
-        return no_number(from);
-    }
-    let start = skip(line, from.at);
-    let negative = byte_at(line, start) == b'-';
-    let first = if negative { one_more(start) } else { start };
-    let end = digits_end(line, first);
-    let magnitude = value_of(line, first, end);
-    if end == first || !fits(negative, magnitude) {
-        return no_number(failed(start));
-    }
-    Number {
-        negative,
-        magnitude,
-        next: Cursor { at: end, ok: true },
-    }
-}
-
-// Whether the next token is that byte.
-pub fn is_next(line: &[u8], from: Cursor, byte: u8) -> bool {
-    from.ok && byte_at(line, skip(line, from.at)) == byte
-}
-
-// Whether the next token starts as a number does.
-pub fn is_number_next(line: &[u8], from: Cursor) -> bool {
-    let byte = byte_at(line, skip(line, from.at));
-    from.ok && (byte == b'-' || is_digit(byte))
-}
-
-// Whether the next token is a number, and the one behind it that byte.
-pub fn is_number_before(line: &[u8], from: Cursor, byte: u8) -> bool {
-    let number = read_number(line, from);
-    is_next(line, number.next, byte)
-}
-
-// Past the next token, which is that byte.
-pub fn expect(line: &[u8], from: Cursor, byte: u8) -> Cursor {
-    if !from.ok {
-        return from;
-    }
-    let at = skip(line, from.at);
-    if byte_at(line, at) == byte {
-        return Cursor {
-            at: one_more(at),
-            ok: true,
+    // Reads a number from -2^63 to 2^63 - 1.
+    pub fn number(&mut self) -> Result<i64, Unreadable>
+        ensures kept { self.new.bytes.now ≡ self.old.bytes.now }
+        ensures forward { self.old.at ≤ self.new.at }
+        ensures err { IfErr result (λ e. e.0 ≡ self.old.at) }
+    {
+        let at = self.unreadable();
+        let count = match self.rest() {
+            [b'-', digits @ ..] => 1 + count_digits(digits),
+            digits => count_digits(digits),
         };
+        str::from_utf8(self.take(count))
+            .ok()
+            .and_then(|text| text.parse().ok())
+            .ok_or(at)
     }
-    failed(at)
-}
 
-// Past a token, which has those bytes.
-fn expect_bytes(line: &[u8], from: Cursor, token: Word, bytes: &[u8]) -> Cursor {
-    if !from.ok {
-        return from;
+    // Reads a number that has no sign.
+    pub fn digits(&mut self) -> Result<i64, Unreadable>
+        ensures kept { self.new.bytes.now ≡ self.old.bytes.now }
+        ensures forward { self.old.at ≤ self.new.at }
+        ensures err { IfErr result (λ e. e.0 ≡ self.old.at) }
+    {
+        if self.is_next(b'-') {
+            return Err(self.unreadable());
+        }
+        self.number()
     }
-    if same(part(line, token.start, token.end), bytes) {
-        return Cursor {
-            at: token.end,
-            ok: true,
-        };
+
+    // Reads an unsigned number. A negative one is handed on as the largest.
+    pub fn unsigned(&mut self) -> Result<u64, Unreadable>
+        ensures kept { self.new.bytes.now ≡ self.old.bytes.now }
+        ensures forward { self.old.at ≤ self.new.at }
+        ensures err { IfErr result (λ e. e.0 ≡ self.old.at) }
+    {
+        let number = self.number()?;
+        Ok(u64::try_from(number).unwrap_or(u64::MAX))
     }
-    failed(token.start)
-}
 
-// Past the next token, which is that word.
-pub fn expect_word(line: &[u8], from: Cursor, word: &[u8]) -> Cursor {
-    expect_bytes(line, from, read_word(line, from.at), word)
-}
-
-// Past the next token, which is those letters and hyphens.
-pub fn expect_hyphenated(line: &[u8], from: Cursor, name: &[u8]) -> Cursor {
-    expect_bytes(line, from, read_hyphenated(line, from.at), name)
-}
-
-// Whether the next token is that word.
-pub fn is_word(line: &[u8], from: Cursor, word: &[u8]) -> bool {
-    expect_word(line, from, word).ok
-}
-
-// Whether the next token is those letters and hyphens.
-pub fn is_hyphenated(line: &[u8], from: Cursor, name: &[u8]) -> bool {
-    expect_hyphenated(line, from, name).ok
-}
-
-// Whether the request goes on.
-pub fn has_more(line: &[u8], from: Cursor) -> bool {
-    from.ok && skip(line, from.at) < line.len()
-}
-
-// The end of the request: any further token is unreadable.
-pub fn finish(line: &[u8], from: Cursor) -> Cursor {
-    if has_more(line, from) {
-        return failed(skip(line, from.at));
+    // Reads a number from 0 to most; any other is unreadable.
+    pub fn bounded(&mut self, most: u64) -> Result<u64, Unreadable>
+        ensures kept { self.new.bytes.now ≡ self.old.bytes.now }
+        ensures forward { self.old.at ≤ self.new.at }
+        ensures ok { IfOk result (λ number. number ≤ most) }
+        ensures err { IfErr result (λ e. e.0 ≡ self.old.at) }
+    {
+        let at = self.unreadable();
+        let number = self.unsigned()?;
+        if number <= most { Ok(number) } else { Err(at) }
     }
-    from
+
+    // Reads a number that a place of a buffer may hold; any other is unreadable.
+    pub fn value(&mut self) -> Result<u32, Unreadable>
+        ensures kept { self.new.bytes.now ≡ self.old.bytes.now }
+        ensures forward { self.old.at ≤ self.new.at }
+        ensures err { IfErr result (λ e. e.0 ≡ self.old.at) }
+    {
+        let at = self.unreadable();
+        let number = self.unsigned()?;
+        u32::try_from(number).ok().ok_or(at)
+    }
+
+    // Whether the request goes on.
+    pub fn has_more(&self) -> bool
+        ensures { IsTrue result ↔ (self.now.at < length self.now.bytes.now) }
+    {
+        !self.rest().is_empty()
+    }
+
+    // The end of the request: any further token is unreadable.
+    pub fn finish(&self) -> Result<(), Unreadable>
+        ensures ok { IsOk result ↔ (self.now.at ≡ length self.now.bytes.now) }
+        ensures err { IfErr result (λ e. e.0 ≡ self.now.at) }
+    {
+        if self.has_more() {
+            Err(self.unreadable())
+        } else {
+            Ok(())
+        }
+    }
 }

@@ -1,15 +1,14 @@
 -- What the calls on multipliers answer: the rule of a divisor, and the values (Q-8). Assumes nothing.
-use Rattle.std.specs.Prelude.{ℕ, ◌/◌, Bool, ◌&&◌, List, [], ◌∷◌, leb}
+use Rattle.std.specs.Prelude.{ℕ, ◌/◌, Bool, ◌&&◌, List, [], ◌∷◌, leb, Result, Ok, Err}
 use Rattle.refusal.specs.Number.{Answer, done, refusal, answered}
 use Rattle.refusal.specs.Judge.{Rule, rule, judge}
+use Rattle.refusal.specs.declared.Refusal.{Refusal}
 use Rattle.refusal.specs.declared.Refusal.TheVariants.{Attribute}
 use Rattle.reciprocal.specs.Multiplier.{max_divisor, multiplier_of}
-use Rattle.reciprocal.specs.declared.Reckoned.{Reckoned}
-use Rattle.reciprocal.specs.declared.Reckoned.TheVariants as reckoned
 
-abbrev pub reckoned_answer : Reckoned → Answer ℕ
-reckoned_answer (reckoned.Number n) = done (n ∷ [])
-reckoned_answer (reckoned.Refused r) = refusal (0 ∷ []) r
+abbrev pub reckoned_answer : Result ℕ Refusal → Answer ℕ
+reckoned_answer (Ok n) = done (n ∷ [])
+reckoned_answer (Err r) = refusal (0 ∷ []) r
 
 -- a divisor is one of 1 to 1,024
 abbrev pub good_divisor : ℕ → Bool

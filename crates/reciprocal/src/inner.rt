@@ -1062,14 +1062,12 @@ pub fn divide(n: u64, divisor: u64, m: &[u64]) -> Divided
     ensures { (result.quotient ≡ n / divisor) × (result.remainder ≡ n % divisor) }
 {
     let i = (divisor - 1) as usize;
-    if n < REACHED {
-        if i < m.len() {
-            let quotient = n * m[i] / WHOLE;
-            return Divided {
-                quotient,
-                remainder: n - quotient * divisor,
-            };
-        }
+    if n < REACHED && i < m.len() {
+        let quotient = n * m[i] / WHOLE;
+        return Divided {
+            quotient,
+            remainder: n - quotient * divisor,
+        };
     }
     Divided {
         quotient: n / divisor,

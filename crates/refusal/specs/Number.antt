@@ -1,9 +1,8 @@
 -- The table of refusals: the number of each case, and the values that an answer carries. Assumes nothing.
-use Rattle.std.specs.Prelude.{ℕ, List, [], ◌∷◌}
+use Rattle.std.specs.Prelude.{ℕ, List, [], ◌∷◌, Ok, Err}
 use Rattle.refusal.specs.declared.Refusal.{Refusal}
 use Rattle.refusal.specs.declared.Refusal.TheVariants.{ShapeLimits, Attribute, Repeat, LayoutRule, RepeatedLayout, PaddedSize, Outside, WrongLength, CountLimit, WorkingLimit, ShortBuffer, NoPlan, NoLayout}
-use Rattle.refusal.specs.declared.Verdict.{Verdict}
-use Rattle.refusal.specs.declared.Verdict.TheVariants.{Done, Refused}
+use Rattle.refusal.specs.Judge.{Verdict}
 
 -- the number in the table
 abbrev pub number_of : Refusal → ℕ
@@ -53,10 +52,10 @@ refusal zeros r = record { number = number_of r; values = zeros; places = places
 
 -- the answer that a verdict makes: these values, or zeros
 abbrev pub answered : {A : Type 0} → List A → Verdict → List A → Answer A
-answered zeros Done xs = done xs
-answered zeros (Refused r) xs = refusal zeros r
+answered zeros (Ok _) xs = done xs
+answered zeros (Err r) xs = refusal zeros r
 
 -- a call that hands back nothing else has no values
 abbrev pub verdict_answer : Verdict → Answer ℕ
-verdict_answer Done = done []
-verdict_answer (Refused r) = refusal [] r
+verdict_answer (Ok _) = done []
+verdict_answer (Err r) = refusal [] r

@@ -4,7 +4,10 @@
 ghost use Rattle.std.specs.Prelude.{◌≡◌};
 ghost use Rattle.refusal.specs.Number.{number_of};
 
-#[derive(Clone, Copy)]
+use std::error::Error;
+use std::fmt;
+
+#[derive(Clone, Copy, Debug, PartialEq, Eq)]
 pub enum Refusal {
     // 1: a shape breaks its limits.
     ShapeLimits,
@@ -34,23 +37,14 @@ pub enum Refusal {
     NoLayout,
 }
 
-// The answer of a call that hands back nothing else: done, or refused.
-#[derive(Clone, Copy)]
-pub enum Verdict {
-    Done,
-    Refused(Refusal),
-}
-
 // The number of a refusal in the table.
 pub fn number(r: Refusal) -> u64
     ensures { result ≡ number_of r }
 {
     match r {
         Refusal::ShapeLimits => 1,
-        Refusal::Attribute => 2,
-        Refusal::Repeat(_, _) => 2,
-        Refusal::LayoutRule => 3,
-        Refusal::RepeatedLayout(_, _, _) => 3,
+        Refusal::Attribute | Refusal::Repeat(_, _) => 2,
+        Refusal::LayoutRule | Refusal::RepeatedLayout(_, _, _) => 3,
         Refusal::PaddedSize => 4,
         Refusal::Outside => 5,
         Refusal::WrongLength => 6,
@@ -61,3 +55,19 @@ pub fn number(r: Refusal) -> u64
         Refusal::NoLayout => 12,
     }
 }
+
+// The number, and the places of what repeats.
+impl fmt::Display for Refusal {
+    fn fmt<W: fmt::Write>(&self, f: &mut fmt::Formatter<W>) -> fmt::Result {
+        let number = number(*self);
+        match self {
+            Refusal::Repeat(earlier, later) => write!(f, "{number} at {earlier} {later}"),
+            Refusal::RepeatedLayout(station, earlier, later) => {
+                write!(f, "{number} at {station} {earlier} {later}")
+            }
+            _ => write!(f, "{number}"),
+        }
+    }
+}
+
+impl Error for Refusal {}

@@ -6,5 +6,6 @@ pub mod Sided
 pub mod Filling
 pub mod Reading
 pub mod Reach
+pub mod Between
 pub mod Samples
 pub mod Theorems

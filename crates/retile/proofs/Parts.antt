@@ -3,14 +3,14 @@ use mathlib.Core.Path.{◌≡◌, refl, sym, ap, ◌∙◌}
 use Prim.Native.Nat.{ℕ, zero, suc, ◌+◌, ◌-◌, ◌*◌, ◌<◌, ◌≤◌, zero-le, suc-le-suc}
 use native.Mathlib.Omega.{arith}
 use native.Mathlib.Nat.{add-sub_cancel_left}
-use mathlib.Core.List.{List, ◌∷◌}
-use lib.ListN.{length, get_or, take}
-use lib.Seq.{take-length}
+use mathlib.Core.List.{List, ◌∷◌, ◌++◌}
+use lib.ListN.{length, get_or, take, drop, length-append, length-drop}
+use lib.Seq.{take-length, take_at, length-take-le}
 use Rattle.radix.specs.Radix.{tab}
 use Rattle.radix.proofs.Radix.{get_d-tab, length-tab}
 use Rattle.retile.specs.Stores.{Store, cell, mark, Memory, apply_all, stores}
 use Rattle.retile.specs.Steps.{listed}
-use Rattle.retile.proofs.Running.{apply-append, all-length, stores-length}
+use Rattle.retile.proofs.Running.{apply-append, stores-length}
 use Rattle.retile.proofs.Cuts.{run-mark, stores-join}
 
 -- the same values make the same stores
@@ -39,12 +39,6 @@ module _ (f : ℕ → ℕ) where
     pub from : first.mark ≤ here.mark
     pub left : here ≡ apply_all (stores f first.mark (here.mark - first.mark)) first
 
-  pub come-start : (first : Memory) → Come first first
-  come-start first = let z : 0 ≡ first.mark - first.mark = omega arith in record { from = omega arith; left = ap (λ (n : ℕ). apply_all (stores f first.mark n) first) z }
-
-  pub come-length : {first here : Memory} → Come first here → length here.cells ≡ length first.cells
-  come-length {first} {here} c = ap (λ (M : Memory). length M.cells) c.left ∙ all-length (stores f first.mark (here.mark - first.mark)) first
-
   -- one part more
   module _ (first here here' : Memory) (values : List ℕ) (n : ℕ) (is : values ≡ values_from here.mark n) (e : here' ≡ apply_all (take (2 * n) (stores (listed values here.mark) here.mark (length values))) here) where
     next : here' ≡ apply_all (stores f here.mark n) here
@@ -71,3 +65,16 @@ module _ (f : ℕ → ℕ) where
               ∙ ap (λ (xs : List Store). apply_all xs first) (sym (stores-join f a n first.mark))
               ∙ ap (λ (k : ℕ). apply_all (stores f first.mark k) first) d;
         }
+
+  -- the part that a loop makes: n values read into the front of a row, then settled from there
+  pub part-made : (first here here' : Memory) (ahead new : List ℕ) (n : ℕ) → n ≤ length ahead → length new ≡ length (take n ahead) → new ≡ values_from here.mark (length (take n ahead))
+      → here' ≡ apply_all (take (2 * n) (stores (listed (take n (new ++ drop n ahead)) here.mark) here.mark (length (take n (new ++ drop n ahead))))) here → Come first here
+      → (length (new ++ drop n ahead) ≡ length ahead) × (here'.mark ≡ here.mark + n) × Come first here'
+  part-made first here here' ahead new n room same values e c =
+      let lent : length (take n ahead) ≡ n = length-take-le n ahead room in
+      let held : take n (new ++ drop n ahead) ≡ new = take_at new (drop n ahead) n (same ∙ lent) in
+      let is : take n (new ++ drop n ahead) ≡ values_from here.mark n = held ∙ values ∙ ap (values_from here.mark) lent in (
+        omega (arith, length-append new (drop n ahead), length-drop n ahead, same, lent),
+        next-mark first here here' (take n (new ++ drop n ahead)) n is e,
+        come-next first here here' (take n (new ++ drop n ahead)) n is e c,
+      )

@@ -11,7 +11,7 @@ use lib.Seq.{drop-cons, get_or-set_same, get_or-set_other}
 use Rattle.radix.proofs.Lists.{le-or-lt}
 use Rattle.radix.proofs.Loops.{rest-pos}
 use Rattle.radix.proofs.Radix.{right-pos}
-use Rattle.radix.specs.Radix.{max_count, prod, digits, Sizes}
+use Rattle.radix.specs.Radix.{max_count, prod, digits, Sizes, Bounded}
 use Rattle.shape.proofs.Repeats.{place_at}
 use Rattle.shape.specs.Dimensions.{place, Permutation}
 use Rattle.tiling.proofs.Along.{row-along}
@@ -68,6 +68,11 @@ dimension-is sizes p q v e w f k a b span wide l at to is =
       size = refl;
       span = is;
     }
+
+-- a dimension has a coordinate
+pub dimension-some : (g : Along) (sizes p q : List ℕ) → IsDimension g sizes p q → Sizes sizes → 0 < g.size
+unfolding Bounded
+dimension-some g sizes p q d s = subst (λ (x : ℕ). 0 < x) (sym d.size) (s g.dimension d.inside).0
 
 module _ (sizes p : List ℕ) (tss : List (List ℕ)) (span : ℕ) where
   -- no coordinate, and one more

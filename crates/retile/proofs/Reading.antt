@@ -1,7 +1,6 @@
 -- What a row of cells reads: the source's cells along one dimension, or 0 in padding. Assumes nothing.
 use mathlib.Core.Path.{◌≡◌, sym, ap, ◌∙◌}
 use Prim.Native.Nat.{ℕ, ◌+◌, ◌*◌, ◌<◌}
-use native.Mathlib.Nat.{zero-mul}
 use native.Mathlib.Omega.{arith}
 use mathlib.Core.List.{List}
 use lib.ListN.{get_or, take}
@@ -10,7 +9,6 @@ use Rattle.tiling.specs.Cell.{holds, cell}
 use Rattle.tiling.specs.Runs.{PaddingRun}
 use Rattle.tiling.specs.Tile.{offset, padded}
 use Rattle.tiling.proofs.OwnCells.{Valid, cell_holds, cell-offset, offset-below}
-use Rattle.tiling.proofs.First.{offset-first}
 use Rattle.retile.specs.Retile.{read_for, value_in}
 use Rattle.retile.specs.Rows.{HasSteps, IsRow}
 
@@ -32,10 +30,6 @@ module _ (sizes p : List ℕ) (tss : List (List ℕ)) (q : List ℕ) (uss : List
 
   to_step : (j : ℕ) → j < r → get_or (take r qtable) j 0 ≡ offset sizes q uss (j * span)
   to_step j h = get_or-take r qtable j 0 h ∙ qs.each j (omega (arith, row.narrow))
-
-  -- the first step of a row stays where it is
-  pub first_step : get_or (take r qtable) 0 0 ≡ 0
-  first_step = to_step 0 row.some ∙ ap (offset sizes q uss) (zero-mul span) ∙ offset-first sizes q uss
 
   -- the row lies inside the source
   pub row_inside : Valid sizes p tss → (k : ℕ) → k ≡ offset sizes p tss n → (j : ℕ) → j < r → k + get_or (take r ptable) j 0 < padded sizes p tss

@@ -1,24 +1,21 @@
 -- What a re-tiling answers and leaves in the lent destination and mark: the rules in their order. Assumes nothing.
-use Rattle.std.specs.Prelude.{ℕ, ◌&&◌, List, [], ◌∷◌, leb, length, take}
+use Rattle.std.specs.Prelude.{ℕ, ◌&&◌, List, [], ◌∷◌, leb, length, take, Result, Ok, Err}
 use Rattle.radix.specs.Radix.{max_count}
 use Rattle.refusal.specs.Number.{Answer, done, refusal, answered}
-use Rattle.refusal.specs.Judge.{Rule, rule, judge}
+use Rattle.refusal.specs.Judge.{Rule, rule, judge, Verdict}
+use Rattle.refusal.specs.declared.Refusal.{Refusal}
 use Rattle.refusal.specs.declared.Refusal.TheVariants.{ShapeLimits, Attribute, LayoutRule, PaddedSize, ShortBuffer}
-use Rattle.refusal.specs.declared.Verdict.{Verdict}
-use Rattle.refusal.specs.declared.Verdict.TheVariants.{Done, Refused}
 use Rattle.shape.specs.Shape.{good_shape}
 use Rattle.shape.specs.declared.Shape.{Shape}
 use Rattle.layout.specs.Layout.{good_layout, padded_of}
 use Rattle.layout.specs.declared.Layout.{Layout}
 use Rattle.retile.specs.Stores.{Memory, apply_all, settled, stores_of, stores_of_calls}
 use Rattle.retile.specs.Retile.{value_of}
-use Rattle.retile.specs.declared.Retiled.{Retiled}
-use Rattle.retile.specs.declared.Retiled.TheVariants as retiled
 
 -- the number of cells settled
-abbrev pub retiled_answer : Retiled → Answer ℕ
-retiled_answer (retiled.Settled n) = done (n ∷ [])
-retiled_answer (retiled.Refused r) = refusal (0 ∷ []) r
+abbrev pub retiled_answer : Result ℕ Refusal → Answer ℕ
+retiled_answer (Ok n) = done (n ∷ [])
+retiled_answer (Err r) = refusal (0 ∷ []) r
 
 -- 1; 3, then 4, of either layout; 2 for a mark above the destination's padded size; 9 for a buffer shorter than its layout's padded size
 abbrev pub retile_rules : Shape → Layout → Layout → ℕ → ℕ → ℕ → List Rule
@@ -40,8 +37,8 @@ retile_answer s from to source M n = answered (0 ∷ []) (verdict_of s from to s
 
 -- a refused call leaves the memory as it was
 abbrev pub when_done : Verdict → Memory → Memory → Memory
-when_done Done new old = new
-when_done (Refused r) new old = old
+when_done (Ok _) new old = new
+when_done (Err r) new old = old
 
 -- what a call with allowance n leaves: the memory after its stores
 unfoldable pub retile_left : Shape → Layout → Layout → List ℕ → Memory → ℕ → Memory

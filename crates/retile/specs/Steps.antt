@@ -1,10 +1,9 @@
 -- What the inner functions of re-tiling require and answer. Assumes nothing.
-use Rattle.std.specs.Prelude.{ℕ, ◌+◌, ◌-◌, ◌≤◌, ◌≡◌, ◌&&◌, cond, List, ltb, leb, length, get_or}
-use Rattle.refusal.specs.Judge.{unless, judge}
+use Rattle.std.specs.Prelude.{ℕ, ◌+◌, ◌-◌, ◌≤◌, ◌≡◌, ◌&&◌, cond, List, ltb, leb, length, get_or, Ok, Err, Result, [], ◌∷◌}
+use Rattle.refusal.specs.Judge.{Rule, rule, judge, Verdict}
 use Rattle.refusal.specs.Number.{number_of}
+use Rattle.refusal.specs.declared.Refusal.{Refusal}
 use Rattle.refusal.specs.declared.Refusal.TheVariants.{Attribute, ShortBuffer}
-use Rattle.refusal.specs.declared.Verdict.{Verdict}
-use Rattle.refusal.specs.declared.Verdict.TheVariants.{Done, Refused}
 use Rattle.shape.specs.declared.Shape.{Shape}
 use Rattle.tiling.specs.Tile.{tiles_from, padded, physical}
 use Rattle.tiling.specs.Ready.{Ready}
@@ -36,17 +35,36 @@ pub record IsSide (sizes p lens flat dims buffer : List ℕ) : Type 0 where
   pub same : dims ≡ physical sizes p (tiles_from lens flat)
   pub room : padded sizes p (tiles_from lens flat) ≤ length buffer
 
--- the same as records: the verdict on the shape and the layout and, where it is done, their measures
-abbrev pub Measures : Side → Shape → Layout → Type 0
-Measures x s l = (x.verdict ≡ judge (layout_rules s l)) × (x.verdict ≡ Done → IsExtent x.extent s l x.order x.dims)
+-- the same as records: a shape and a layout that break no rule, and their measures
+abbrev pub IsMeasured : Side → Shape → Layout → Type 0
+IsMeasured x s l = (judge (layout_rules s l) ≡ Ok tt) × IsExtent x.extent s l x.order x.dims
+
+-- the measures of a shape and a layout, or the refusal of their first broken rule
+abbrev pub Measures : Result Side Refusal → Shape → Layout → Type 0
+Measures (Ok x) s l = IsMeasured x s l
+Measures (Err r) s l = judge (layout_rules s l) ≡ Err r
 
 -- of two verdicts the one with the lower number
 abbrev pub lower : Verdict → Verdict → Verdict
-lower Done w = w
-lower (Refused r) Done = Refused r
-lower (Refused r) (Refused t) = cond (ltb (number_of t) (number_of r)) (Refused t) (Refused r)
+lower (Ok _) w = w
+lower (Err r) (Ok _) = Err r
+lower (Err r) (Err t) = cond (ltb (number_of t) (number_of r)) (Err t) (Err r)
 
--- the rules of the mark and the buffers, after the verdict on the shape and the layouts
+-- the verdict on a side
+abbrev pub verdict_on : Result Side Refusal → Verdict
+verdict_on (Ok x) = Ok tt
+verdict_on (Err r) = Err r
+
+-- both sides, or of their refusals the one with the lower number
+abbrev pub AreBoth : Result Side Refusal → Result Side Refusal → Result (Side × Side) Refusal → Type 0
+AreBoth a b (Ok p) = (a ≡ Ok p.0) × (b ≡ Ok p.1)
+AreBoth a b (Err r) = lower (verdict_on a) (verdict_on b) ≡ Err r
+
+-- the rules of the mark and the buffers
+abbrev pub mark_rules : ℕ → ℕ → ℕ → ℕ → ℕ → List Rule
+mark_rules from to source cells m = rule (leb m to) Attribute ∷ rule (leb from source && leb to cells) ShortBuffer ∷ []
+
+-- the verdict on the sides and, where it is done, on the mark and the buffers
 abbrev pub with_mark : Verdict → ℕ → ℕ → ℕ → ℕ → ℕ → Verdict
-with_mark Done from to source cells m = unless (leb m to) Attribute (unless (leb from source && leb to cells) ShortBuffer Done)
-with_mark (Refused r) from to source cells m = Refused r
+with_mark (Ok _) from to source cells m = judge (mark_rules from to source cells m)
+with_mark (Err r) from to source cells m = Err r

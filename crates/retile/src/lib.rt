@@ -2,31 +2,25 @@
 #![tactic(auto)]
 
 mod along;
+mod retiling;
 mod run;
 mod sides;
 mod stores;
 mod values;
 
 ghost use Rattle.std.specs.Prelude.{◌≡◌, ◌+◌, ◌≤◌, length};
-ghost use Rattle.refusal.specs.Judge.{judge};
-ghost use Rattle.refusal.specs.declared.Verdict.TheVariants.{Done};
-ghost use Rattle.layout.specs.Layout.{layout_rules, padded_of};
+ghost use Rattle.layout.specs.Layout.{padded_of};
 ghost use Rattle.retile.specs.Stores.{memory, apply_all, stores};
 ghost use Rattle.retile.specs.Retile.{value_of};
-ghost use Rattle.retile.specs.Steps.{Measures};
+ghost use Rattle.retile.specs.Steps.{IsMeasured};
 ghost use Rattle.retile.specs.Answers.{retiled_answer, retile_answer, retile_left};
 
 use layout::Layout;
-use refusal::{Refusal, Verdict};
+use refusal::Refusal;
+use retiling::Retiling;
 use shape::Shape;
 use sides::Side;
-
-// The answer of retile: how many cells it settled.
-#[derive(Clone, Copy)]
-pub enum Retiled {
-    Settled(u64),
-    Refused(Refusal),
-}
+use tiling::Tiled;
 
 // Settles count cells from the mark on, where both sides are measured.
 fn settle_in(
@@ -40,36 +34,32 @@ fn settle_in(
     mark: &mut u64,
     count: u64,
 )
-    requires measures { Measures a shape from × (judge (layout_rules shape from) ≡ Done) × (padded_of shape from ≤ length source.now) }
-    requires measures_2 { Measures b shape to × (judge (layout_rules shape to) ≡ Done) × (padded_of shape to ≤ length cells.old) }
+    requires measures { IsMeasured a shape from × (padded_of shape from ≤ length source.now) }
+    requires measures_2 { IsMeasured b shape to × (padded_of shape to ≤ length cells.old) }
     requires count_bound { mark.old + count ≤ padded_of shape to }
     ensures { memory cells.new mark.new ≡ apply_all (stores (value_of shape from to source.now) mark.old count) (memory cells.old mark.old) }
 {
-    let rank = shape.rank;
-    let sizes = shape.sizes;
-    let plens = from.tile_len;
-    let pflat = from.tile;
-    let p = a.order;
-    let pdims = a.dims;
-    let qlens = to.tile_len;
-    let qflat = to.tile;
-    let q = b.order;
-    let qdims = b.dims;
-    run::run(
-        &sizes[..rank],
-        &p[..rank],
-        &plens[..from.tiles],
-        &pflat,
-        &pdims[..a.extent.len],
-        &q[..rank],
-        &qlens[..to.tiles],
-        &qflat,
-        &qdims[..b.extent.len],
-        source,
-        cells,
-        mark,
-        count,
-    );
+    let read = Tiled {
+        sizes: &shape.sizes[..shape.rank],
+        order: &a.order[..shape.rank],
+        lens: &from.tile_len[..from.tiles],
+        entries: &from.tile,
+        dims: &a.dims[..a.extent.len],
+        multipliers: &[],
+    };
+    let filled = Tiled {
+        sizes: &shape.sizes[..shape.rank],
+        order: &b.order[..shape.rank],
+        lens: &to.tile_len[..to.tiles],
+        entries: &to.tile,
+        dims: &b.dims[..b.extent.len],
+        multipliers: &[],
+    };
+    let retiling = Retiling {
+        from: read,
+        to: filled,
+    };
+    run::run(&retiling, source, cells, mark, count);
 }
 
 // Settles as many cells from the mark on as the allowance and the padded size leave, in offset order of the destination.
@@ -81,18 +71,12 @@ pub fn retile(
     cells: &mut [u32],
     mark: &mut u64,
     allowance: u64,
-) -> Retiled
+) -> Result<u64, Refusal>
     ensures { (retiled_answer result ≡ retile_answer shape from to source.now (memory cells.old mark.old) allowance) × (memory cells.new mark.new ≡ retile_left shape from to source.now (memory cells.old mark.old) allowance) }
 {
-    let a = sides::side_of(shape, from);
-    let b = sides::side_of(shape, to);
-    let m = *mark;
-    match sides::judge_retile(a, b, source.len(), cells.len(), m) {
-        Verdict::Done => {
-            let count = run::least(allowance, b.extent.padded - m);
-            settle_in(shape, from, a, to, b, source, cells, mark, count);
-            Retiled::Settled(count)
-        }
-        Verdict::Refused(r) => Retiled::Refused(r),
-    }
+    let (a, b) = sides::both(sides::side_of(shape, from), sides::side_of(shape, to))?;
+    sides::judge_mark(a.extent, b.extent, source.len(), cells.len(), *mark)?;
+    let count = allowance.min(b.extent.padded - *mark);
+    settle_in(shape, from, a, to, b, source, cells, mark, count);
+    Ok(count)
 }

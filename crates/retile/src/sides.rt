@@ -1,81 +1,76 @@
-// The two sides of a re-tiling: each layout judged and measured once, and the two verdicts made one. Inner functions.
+// The two sides of a re-tiling: each layout judged and measured once, and of two refusals the lower one. Inner functions.
 ghost use Rattle.std.specs.Prelude.{◌≡◌};
-ghost use Rattle.retile.specs.Steps.{Measures, lower, with_mark};
+ghost use Rattle.refusal.specs.Judge.{judge};
+ghost use Rattle.retile.specs.Steps.{Measures, AreBoth, mark_rules};
 
 use layout::parts::Extent;
 use layout::{Layout, parts};
-use refusal::{Refusal, Verdict};
+use refusal::Refusal;
 use shape::Shape;
 
-// The verdict on a shape and a layout and, where it is done, the extent, the order and the physical shape.
+// The extent, the order and the physical shape of a shape and a layout that break no rule.
 #[derive(Clone, Copy)]
 pub struct Side {
-    pub verdict: Verdict,
     pub extent: Extent,
     pub order: [u64; 6],
     pub dims: [u64; 24],
 }
 
 // A layout judged and measured.
-pub fn side_of(shape: Shape, layout: Layout) -> Side
+pub fn side_of(shape: Shape, layout: Layout) -> Result<Side, Refusal>
     ensures { Measures result shape layout }
 {
-    let n = layout.rank;
-    let tiles = layout.tiles;
-    let m = layout.minor_to_major;
-    let lens = layout.tile_len;
-    let flat = layout.tile;
     let mut order = [0u64; 6];
     let mut dims = [0u64; 24];
-    let g = parts::measure(shape, n, &m, tiles, &lens, &flat, &mut order, &mut dims);
-    let verdict = g.verdict;
-    let extent = g.extent;
-    Side {
-        verdict,
+    let extent = parts::measure(
+        shape,
+        layout.rank,
+        &layout.minor_to_major,
+        layout.tiles,
+        &layout.tile_len,
+        &layout.tile,
+        &mut order,
+        &mut dims,
+    )?;
+    Ok(Side {
         extent,
         order,
         dims,
-    }
+    })
 }
 
-// Of two verdicts the one with the lower number.
-fn lower_of(a: Verdict, b: Verdict) -> Verdict
-    ensures { result ≡ lower a b }
+// Both sides, or of their refusals the one with the lower number.
+pub fn both(a: Result<Side, Refusal>, b: Result<Side, Refusal>) -> Result<(Side, Side), Refusal>
+    ensures { AreBoth a b result }
 {
-    match a {
-        Verdict::Done => b,
-        Verdict::Refused(r) => match b {
-            Verdict::Done => Verdict::Refused(r),
-            Verdict::Refused(t) => {
-                if refusal::number(t) < refusal::number(r) {
-                    Verdict::Refused(t)
-                } else {
-                    Verdict::Refused(r)
-                }
+    match (a, b) {
+        (Ok(x), Ok(y)) => Ok((x, y)),
+        (Ok(_), Err(r)) | (Err(r), Ok(_)) => Err(r),
+        (Err(r), Err(t)) => {
+            if refusal::number(t) < refusal::number(r) {
+                Err(t)
+            } else {
+                Err(r)
             }
-        },
-    }
-}
-
-// The rules of a re-tiling: those of both sides, the lowest number first, then 2 for the mark and 9 for the places lent for each layout's cells.
-pub fn judge_retile(a: Side, b: Side, source: usize, cells: usize, mark: u64) -> Verdict
-    ensures { result ≡ with_mark (lower a.verdict b.verdict) a.extent.padded b.extent.padded source cells mark }
-{
-    let v = a.verdict;
-    let w = b.verdict;
-    match lower_of(v, w) {
-        Verdict::Done => {
-            if b.extent.padded < mark {
-                return Verdict::Refused(Refusal::Attribute);
-            }
-            if (source as u64) < a.extent.padded {
-                return Verdict::Refused(Refusal::ShortBuffer);
-            }
-            if (cells as u64) < b.extent.padded {
-                return Verdict::Refused(Refusal::ShortBuffer);
-            }
-            Verdict::Done
         }
-        Verdict::Refused(r) => Verdict::Refused(r),
     }
+}
+
+// The rules of the mark, 2, and of the places lent for each layout's cells, 9.
+pub fn judge_mark(
+    from: Extent,
+    to: Extent,
+    source: usize,
+    cells: usize,
+    mark: u64,
+) -> Result<(), Refusal>
+    ensures { result ≡ judge (mark_rules from.padded to.padded source cells mark) }
+{
+    if to.padded < mark {
+        return Err(Refusal::Attribute);
+    }
+    if (source as u64) < from.padded || (cells as u64) < to.padded {
+        return Err(Refusal::ShortBuffer);
+    }
+    Ok(())
 }

@@ -16,8 +16,7 @@ fn store_cell(cells: &mut [u32], o: u64, value: u32)
     requires { (o < length cells.old) × (o < max_count) }
     ensures { cells.new ≡ set cells.old o value }
 {
-    let k = o as usize;
-    cells[k] = value;
+    cells[o as usize] = value;
 }
 
 // The store of the mark: one cell more is final.
@@ -25,7 +24,7 @@ fn store_mark(mark: &mut u64)
     requires { mark.old < max_count }
     ensures { mark.new ≡ mark.old + 1 }
 {
-    *mark = *mark + 1;
+    *mark += 1;
 }
 
 // One step: the one store that is next, where value is that of the cell at the mark; and whose store is next after it.
@@ -52,10 +51,8 @@ pub fn settle(values: &[u32], steps: usize, cells: &mut [u32], mark: &mut u64)
 {
     let first = *mark;
     let mut phase = Phase::Cell;
-    let mut k: usize = 0;
-    while k < steps {
+    for _k in 0..steps {
         let i = (*mark - first) as usize;
         phase = step(cells, mark, values[i], phase);
-        k += 1;
     }
 }

@@ -2,7 +2,6 @@
 #![tactic(auto)]
 
 use bench_rows::{ROW, layout_of, shape_of};
-use retile::Retiled;
 
 // The number for rows or a mark that are too short.
 const SHORT: u64 = 9;
@@ -17,22 +16,18 @@ pub extern "C" fn retile_any(
     mark: &mut [u64],
     allowance: u64,
 ) -> u64 {
-    if rows.len() < 2 * ROW {
-        return SHORT;
-    }
-    if mark.len() < 2 {
+    if rows.len() < 2 * ROW || mark.len() < 2 {
         return SHORT;
     }
     let shape = shape_of(rows);
     let from = layout_of(rows);
-    let second = ROW;
-    let to = layout_of(&rows[second..]);
+    let to = layout_of(&rows[ROW..]);
     match retile::retile(shape, from, to, source, cells, &mut mark[0], allowance) {
-        Retiled::Settled(n) => {
+        Ok(n) => {
             mark[1] = n;
             0
         }
-        Retiled::Refused(r) => refusal::number(r),
+        Err(r) => refusal::number(r),
     }
 }
 
@@ -44,19 +39,9 @@ pub extern "C" fn read_rows(rows: &[u64]) -> u64 {
     }
     let shape = shape_of(rows);
     let from = layout_of(rows);
-    let second = ROW;
-    let to = layout_of(&rows[second..]);
+    let to = layout_of(&rows[ROW..]);
     let size = shape.sizes[0];
     let a = from.tile[0];
     let b = to.tile[0];
-    if size < a {
-        return size;
-    }
-    if size < b {
-        return size;
-    }
-    if a < b {
-        return a;
-    }
-    b
+    if size < a || size < b { size } else { a.min(b) }
 }

@@ -1,78 +1,63 @@
 // The arguments of a re-tiling, as its line has them. The runs stay in the line, and are read again as they are made.
 use layout::Layout;
-use reading::{
-    Cursor, expect, is_number_before, read_layout, read_lengths, read_shape, read_unsigned,
-};
+use reading::{Lengths, Line, Unreadable};
 use shape::Shape;
 
 #[derive(Clone, Copy)]
-pub struct Arguments {
+pub struct Arguments<'a> {
     pub shape: Shape,
     // The layouts of the source and of the destination.
     pub given: Layout,
     pub wanted: Layout,
-    // Where the runs start.
-    pub runs: Cursor,
+    // The line, read up to the runs.
+    pub runs: Line<'a>,
     // The lengths of the source and of the destination.
-    pub source: u64,
-    pub destination: u64,
-    pub next: Cursor,
+    pub lengths: Lengths,
 }
 
 // A run: the mark that it finds, and its allowance.
-#[derive(Clone, Copy)]
+#[derive(Clone, Copy, Debug)]
 pub struct Run {
     pub mark: u64,
     pub allowance: u64,
-    pub next: Cursor,
 }
 
-pub fn read_run(line: &[u8], from: Cursor) -> Run {
-    let mark = read_unsigned(line, from);
-    let allowance = read_unsigned(line, expect(line, mark.next, b':'));
-    let next = allowance.next;
-    Run {
-        mark: mark.value,
-        allowance: allowance.value,
-        next,
+pub fn read_run(line: &mut Line<'_>) -> Result<Run, Unreadable> {
+    let mark = line.unsigned()?;
+    line.expect(b':')?;
+    let allowance = line.unsigned()?;
+    Ok(Run { mark, allowance })
+}
+
+// Whether a run follows: the next token is its mark.
+pub fn is_run_next(line: &Line<'_>) -> bool {
+    let mut ahead = *line;
+    ahead.number().is_ok() && ahead.is_next(b':')
+}
+
+// Reads one run or more.
+fn read_runs(line: &mut Line<'_>) -> Result<(), Unreadable> {
+    for _ in 0..line.length() {
+        read_run(line)?;
+        if !is_run_next(line) {
+            break;
+        }
     }
+    Ok(())
 }
 
-// Whether the next token is the mark of a run.
-pub fn is_run_next(line: &[u8], from: Cursor) -> bool {
-    is_number_before(line, from, b':')
-}
-
-// Past the runs, of which there is at least one and at most as many as the line has bytes.
-fn past_runs(line: &[u8], from: Cursor) -> Cursor {
-    let first = read_run(line, from);
-    let mut next = first.next;
-    let mut left = line.len();
-    while left > 0 && is_run_next(line, next) {
-        let run = read_run(line, next);
-        next = run.next;
-        left -= 1;
-    }
-    next
-}
-
-pub fn read_arguments(line: &[u8], from: Cursor) -> Arguments {
-    let sizes = read_shape(line, from);
-    let shape = sizes.shape;
-    let first = read_layout(line, sizes.next);
-    let given = first.layout;
-    let second = read_layout(line, first.next);
-    let wanted = second.layout;
-    let runs = second.next;
-    let lengths = read_lengths(line, past_runs(line, runs));
-    let next = lengths.next;
-    Arguments {
+pub fn read_arguments<'a>(line: &mut Line<'a>) -> Result<Arguments<'a>, Unreadable> {
+    let shape = line.shape()?;
+    let given = line.layout()?;
+    let wanted = line.layout()?;
+    let runs = *line;
+    read_runs(line)?;
+    let lengths = line.buffer_lengths()?;
+    Ok(Arguments {
         shape,
         given,
         wanted,
         runs,
-        source: lengths.given,
-        destination: lengths.made,
-        next,
-    }
+        lengths,
+    })
 }

@@ -4,70 +4,29 @@
 mod arguments;
 mod runs;
 
-use arguments::{Arguments, read_arguments};
-use layout::Padded;
-use reading::{Cursor, fill, finish, front};
-use refusal::Verdict;
+use arguments::read_arguments;
+use reading::{Line, PLACES, count_up, first_of, front};
 use runs::{judge_runs, put_runs};
-use std::io;
 use std::io::Write;
-use writing::{error, labelled, refused, text, values};
+use writing::{Failure, Spaced};
 
 // What a cell of the destination holds before the first run.
 const BEFORE: u32 = 9999;
 
-// The cells of the destination up to its padded size.
-fn put_cells<W: Write>(a: Arguments, out: &mut W, cells: &[u32]) -> io::Result<()> {
-    match layout::padded_size(a.shape, a.wanted) {
-        Padded::Cells(n) => values(out, b" cells", cells, n),
-        Padded::Refused(r) => refused(out, r),
-    }
-}
-
-// The answer where no run is refused.
-fn settled<W: Write>(
-    line: &[u8],
-    a: Arguments,
-    out: &mut W,
-    source: &[u32],
-    cells: &mut [u32],
-) -> io::Result<()> {
-    text(out, b"settled")?;
-    let mark = put_runs(line, a, out, source, cells)?;
-    labelled(out, b" mark ", mark)?;
-    put_cells(a, out, cells)
-}
-
-// The answer over the lent parts of two buffers. The output may be written out as soon as it is put, so all runs are judged before.
-fn retile_in<W: Write>(
-    line: &[u8],
-    a: Arguments,
-    out: &mut W,
-    source: &mut [u32],
-    cells: &mut [u32],
-) -> io::Result<()> {
-    fill(source, 1, 1);
-    fill(cells, BEFORE, 0);
-    match judge_runs(line, a, source, cells) {
-        Verdict::Done => settled(line, a, out, source, cells),
-        Verdict::Refused(r) => refused(out, r),
-    }
-}
-
-// The answer to a re-tiling whose arguments start at a cursor.
-pub fn answer_retile<W: Write>(line: &[u8], from: Cursor, out: &mut W) -> io::Result<()> {
-    let a = read_arguments(line, from);
-    let end = finish(line, a.next);
-    if !end.ok {
-        return error(out, end.at);
-    }
-    let mut source = [0u32; 4096];
-    let mut cells = [0u32; 4096];
-    retile_in(
-        line,
-        a,
-        out,
-        front(&mut source, a.source),
-        front(&mut cells, a.destination),
-    )
+// The output may be written out as soon as it is put, so all runs are judged before.
+pub fn answer_retile<W: Write>(mut line: Line<'_>, out: &mut W) -> Result<(), Failure> {
+    let arguments = read_arguments(&mut line)?;
+    line.finish()?;
+    let mut source = [0; PLACES];
+    let mut cells = [BEFORE; PLACES];
+    count_up(&mut source, 1);
+    let source = front(&mut source, arguments.lengths.given);
+    let cells = front(&mut cells, arguments.lengths.made);
+    judge_runs(&arguments, source, cells)?;
+    write!(out, "settled")?;
+    let mark = put_runs(&arguments, out, source, cells)?;
+    let size = layout::padded_size(arguments.shape, arguments.wanted)?;
+    let settled = Spaced(first_of(cells, size as usize));
+    write!(out, " mark {mark} cells{settled}")?;
+    Ok(())
 }

@@ -1,26 +1,27 @@
 -- From the planner's answer to the answer of the call. Assumes nothing.
+use Rattle.std.specs.Prelude.{Ok, Err, Option, Some, None}
+use Rattle.std.specs.Option.{ok_or}
 use mathlib.Core.Path.{◌≡◌, refl, sym, ap, ◌∙◌, subst}
-use mathlib.Core.Bool.{Bool, true, false}
+use mathlib.Core.Bool.{Bool, true, false, cond}
 use mathlib.Core.List.{List, [], ◌∷◌, ◌++◌}
 use Prim.Native.Nat.{ℕ, suc, ◌+◌, ◌*◌, ◌<◌, ◌≤◌}
 use native.Mathlib.Numerals.{add-one}
 use native.Mathlib.Omega.{arith}
 use borrow.Author.Tests.{leb-true, ltb-true}
 use lib.Dec.{leb}
-use lib.ListN.{length, get_or, replicate}
+use lib.ListN.{length, get_or}
 use Rattle.radix.specs.Radix.{max_count}
 use Rattle.radix.proofs.Tests.{every-at}
 use Rattle.refusal.specs.Judge.{Rule, rule, judge, unless}
 use Rattle.refusal.specs.Number.{Answer, answered, done, refusal}
 use Rattle.refusal.specs.declared.Refusal.{Refusal}
 use Rattle.refusal.specs.declared.Refusal.TheVariants.{NoPlan}
-use Rattle.refusal.specs.declared.Verdict.{Verdict}
-use Rattle.refusal.specs.declared.Verdict.TheVariants.{Done, Refused}
+use Rattle.refusal.specs.Judge.{Verdict}
 use Rattle.refusal.proofs.Judged.{kept, after-done, after-refused}
 use Rattle.shape.specs.Shape.{good_shape}
 use Rattle.shape.specs.declared.Shape.{Shape}
 use Rattle.layout.specs.Layout.{padded_of}
-use Rattle.plan.specs.Answer.{max_stations, spread, pick_plan}
+use Rattle.plan.specs.Answer.{spread}
 use Rattle.plan.specs.declared.Plan.{Plan}
 use Rattle.tree_plan.specs.Tree.{Earlier, Formed}
 use Rattle.tree_plan.specs.Weight.{best_plan, has_plan}
@@ -32,7 +33,7 @@ use Rattle.tree_planner.specs.Words.{tabled, Usable}
 use Rattle.tree_planner.proofs.Theorems.{tabled-formed, tabled-small}
 use Rattle.route.specs.Same.{move_of}
 use Rattle.route.specs.Stations.{station_at, layout_at, good_sizes, sizes_kept, tree_of}
-use Rattle.route.specs.Route.{route_rules, plan_rule, route_zeros, route_values, route_of, route_answer, no_route_of, breaks_no_rule}
+use Rattle.route.specs.Route.{route_rules, plan_rule, route_zeros, route_values, route_of, route_answer, breaks_no_rule}
 use Rattle.route.specs.Loading.{Reads, feeding, Sound, Holds, Entered, Judges, Answers}
 use Rattle.route.specs.declared.Station.{Station}
 use Rattle.route.specs.declared.load.Loaded.{Loaded}
@@ -126,40 +127,47 @@ tables-alike s ys h number cells moves U E =
         ∙ ap (λ (k : ℕ). move_of (layout_at (station_at ys k) a) (layout_at (station_at ys (suc i)) b)) e
 
 -- the answer to a plan that is found, or not
-abbrev pub planned : Bool → Plan → Answer ℕ
-planned true p = done (p.places ++ (p.total ∷ []))
-planned false p = refusal route_zeros NoPlan
+abbrev pub planned : Option Plan → Answer ℕ
+planned (Some p) = done (p.places ++ (p.total ∷ []))
+planned None = refusal route_zeros NoPlan
 
--- a planner's answer: these places and this total, or zeros
-abbrev pub picked : List ℕ → ℕ → Bool → Plan
-picked places total b =
-    pick_plan b (record { found = true; places = places; total = total })
-    (record { found = false; places = replicate max_stations 0; total = 0 })
+-- a planner's answer: these places and this total, or none
+abbrev pub picked : List ℕ → ℕ → Bool → Option Plan
+picked places total b = cond {A = Option Plan} b (Some (record { places = places; total = total })) None
 
 -- behind rules that are kept it is the answer, or rule 10
 pub after-rules :
     (places : List ℕ) (total : ℕ) (b : Bool) (rules : List Rule) →
-    judge rules ≡ Done →
-    (p : Plan) →
+    judge rules ≡ Ok tt →
+    (p : Option Plan) →
     p ≡ picked places total b →
     (values : List ℕ) →
     (b ≡ true → values ≡ places ++ (total ∷ [])) →
-    planned p.found p ≡ answered route_zeros (judge (rules ++ (rule b NoPlan ∷ []))) values
+    planned p ≡ answered route_zeros (judge (rules ++ (rule b NoPlan ∷ []))) values
 after-rules places total b rules k p q values v =
-    ap (λ (x : Plan). planned x.found x) q
+    ap planned q
     ∙ go b v
     ∙ ap (λ (w : Verdict). answered route_zeros w values) (sym (after-done rules (rule b NoPlan ∷ []) k))
   where
     go :
         (t : Bool) →
         (t ≡ true → values ≡ places ++ (total ∷ [])) →
-        planned (picked places total t).found (picked places total t) ≡ answered route_zeros (unless t NoPlan Done) values
+        planned (picked places total t) ≡ answered route_zeros (unless t NoPlan (Ok tt)) values
     go true w = ap done (sym (w refl))
     go false w = refl
 
+-- a plan that was asked for, or a refusal for want of one
+pub some-of : (o : Option Plan) (e : Refusal) (p : Plan) → ok_or o e ≡ Ok p → o ≡ Some p
+some-of None e p q = cc
+some-of (Some x) e p q = cc
+
+pub none-of : (o : Option Plan) (e r : Refusal) → ok_or o e ≡ Err r → (o ≡ None) × (r ≡ e)
+none-of None e r q = (refl, cc)
+none-of (Some x) e r q = (cc, cc)
+
 module _ (s : Shape) (ys : List Station) (number cells moves : ℕ) where
   pub answer-refused :
-      (r : Refusal) → judge (route_rules s ys number cells moves) ≡ Refused r → route_answer (no_route_of r) ≡ route_of s ys number cells moves
+      (r : Refusal) → judge (route_rules s ys number cells moves) ≡ Err r → route_answer (Err r) ≡ route_of s ys number cells moves
   unfolding route_of
   answer-refused r e =
       sym
@@ -169,7 +177,7 @@ module _ (s : Shape) (ys : List Station) (number cells moves : ℕ) where
   module _ (e : breaks_no_rule s ys number cells moves) where
     -- the answer from the planner's
     pub answer-planned :
-        (p : Plan) → p ≡ tree_answer (tree_of s ys number cells) moves → planned p.found p ≡ route_of s ys number cells moves
+        (p : Option Plan) → p ≡ tree_answer (tree_of s ys number cells) moves → planned p ≡ route_of s ys number cells moves
     unfolding route_of tree_answer
     answer-planned p q =
         let F = tree-formed s ys number cells moves (unbroken s ys number cells moves e) in
@@ -179,27 +187,27 @@ module _ (s : Shape) (ys : List Station) (number cells moves : ℕ) where
         ap (λ (t : ℕ). spread number (best_plan (tree_of s ys number cells) moves) ++ (t ∷ []))
         (sym (best-found (tree_of s ys number cells) F moves (ltb-true _ _ h)).total))
 
-    pub answer-none : has_plan (tree_of s ys number cells) moves ≡ false → route_answer (no_route_of NoPlan) ≡ route_of s ys number cells moves
+    pub answer-none : has_plan (tree_of s ys number cells) moves ≡ false → route_answer (Err NoPlan) ≡ route_of s ys number cells moves
     unfolding route_of
     answer-none f =
         sym
         (ap (λ v. answered route_zeros v (route_values s ys number cells moves))
-        (after-done (route_rules s ys number cells moves) (plan_rule s ys number cells moves ∷ []) e ∙ ap (λ (b : Bool). unless b NoPlan Done) f))
+        (after-done (route_rules s ys number cells moves) (plan_rule s ys number cells moves ∷ []) e ∙ ap (λ (b : Bool). unless b NoPlan (Ok tt)) f))
 
     pub answer-values : has_plan (tree_of s ys number cells) moves ≡ true → done (route_values s ys number cells moves) ≡ route_of s ys number cells moves
     unfolding route_of
     answer-values f =
         sym
         (ap (λ v. answered route_zeros v (route_values s ys number cells moves))
-        (after-done (route_rules s ys number cells moves) (plan_rule s ys number cells moves ∷ []) e ∙ ap (λ (b : Bool). unless b NoPlan Done) f))
+        (after-done (route_rules s ys number cells moves) (plan_rule s ys number cells moves ∷ []) e ∙ ap (λ (b : Bool). unless b NoPlan (Ok tt)) f))
 
 -- the answer from what was read
 module _ (s : Shape) (h : Loaded) (len number cells moves : ℕ) where
-  pub finish-refused : (r : Refusal) → Judges s h len number cells moves (Refused r) → Answers s h len number cells moves (no_route_of r)
+  pub finish-refused : (r : Refusal) → Judges s h len number cells moves (Err r) → Answers s h len number cells moves (Err r)
   finish-refused r J =
       record { answer = λ ys n e R H. answer-refused s ys number cells moves r (sym (J.judged ys n e R H)) }
 
-  module _ (J : Judges s h len number cells moves Done) (p : Plan)
+  module _ (J : Judges s h len number cells moves (Ok tt)) (p : Option Plan)
       (q : p ≡ tree_answer (tabled h.parents h.counts h.sizes h.moved number cells) moves)
       (u : Usable h.parents h.counts h.sizes h.moved number cells) where
     module _ (ys : List Station) (n : ℕ) (e : length ys ≡ len) (R : Reads s number len n) (H : Holds s ys n h) where
@@ -222,20 +230,19 @@ module _ (s : Shape) (h : Loaded) (len number cells moves : ℕ) where
           (tree-small s ys number cells moves U)
           moves
 
-    pub finish-none : p.found ≡ false → Answers s h len number cells moves (no_route_of NoPlan)
+    pub finish-none : p ≡ None → Answers s h len number cells moves (Err NoPlan)
     finish-none f =
         record {
           answer =
               λ ys n e R H.
-              ap (λ (b : Bool). planned b p) (sym f)
-              ∙ answer-planned s ys number cells moves (clean ys n e R H) p (made ys n e R H);
+              ap planned (sym f) ∙ answer-planned s ys number cells moves (clean ys n e R H) p (made ys n e R H);
         }
 
-    pub finish-some : p.found ≡ true → Answers s h len number cells moves (record { verdict = Done; places = p.places; total = p.total })
-    finish-some f =
+    pub finish-some :
+        (v : Plan) → p ≡ Some v → Answers s h len number cells moves (Ok (record { places = v.places; total = v.total }))
+    finish-some v f =
         record {
           answer =
               λ ys n e R H.
-              ap (λ (b : Bool). planned b p) (sym f)
-              ∙ answer-planned s ys number cells moves (clean ys n e R H) p (made ys n e R H);
+              ap planned (sym f) ∙ answer-planned s ys number cells moves (clean ys n e R H) p (made ys n e R H);
         }

@@ -1,4 +1,6 @@
 -- One station more: what is kept of the stations read so far holds of it too. Assumes nothing.
+use Rattle.std.specs.Prelude.{Ok, Err}
+use Rattle.std.specs.Result.{result_and}
 use mathlib.Core.Path.{◌≡◌, refl, sym, ap, ap₂, ◌∙◌, subst}
 use mathlib.Core.Bool.{Bool, true, false, ◌&&◌, cond}
 use mathlib.Core.Logic.{inl, inr, ⊎_elim}
@@ -12,8 +14,7 @@ use lib.ListN.{length, get_or, set, replicate}
 use lib.Seq.{get_or-set_same, get_or-set_other}
 use Rattle.radix.specs.Radix.{max_count}
 use Rattle.radix.proofs.Tests.{and-true, and_left, and_right, every-at}
-use Rattle.refusal.specs.declared.Verdict.{Verdict}
-use Rattle.refusal.specs.declared.Verdict.TheVariants.{Done}
+use Rattle.refusal.specs.Judge.{Verdict}
 use Rattle.shape.specs.declared.Shape.{Shape}
 use Rattle.layout.specs.Layout.{good_layout}
 use Rattle.layout.specs.declared.Layout.{Layout}
@@ -426,12 +427,17 @@ entered s h i x from repeat kept parent sizes moved E =
           E;
     }
 
+-- the first of two verdicts that refuses, as `and` gives it
+pub and-first : (v w : Verdict) → result_and v w ≡ first_refusal v w
+and-first (Ok tt) w = refl
+and-first (Err r) w = refl
+
 -- nothing is read yet
 pub started :
     (h : Loaded) →
     h.numbers_kept ≡ true →
     h.layouts_kept ≡ true →
-    h.repeat ≡ Done →
+    h.repeat ≡ Ok tt →
     h.sizes_kept ≡ true →
     h.parents ≡ replicate 64 0 →
     h.counts ≡ replicate 64 0 →

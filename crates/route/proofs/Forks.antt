@@ -1,4 +1,5 @@
 -- A tree without forks: its answer is that of the stations in a row. Assumes nothing.
+use Rattle.std.specs.Prelude.{Ok, Err}
 use mathlib.Core.Path.{◌≡◌, refl, sym, ap, ap₂, ◌∙◌}
 use mathlib.Core.Bool.{Bool, ◌&&◌}
 use mathlib.Core.List.{List, [], ◌∷◌, ◌++◌}
@@ -8,8 +9,7 @@ use native.Mathlib.Omega.{arith}
 use borrow.Author.Tests.{ltb-true}
 use Rattle.refusal.specs.Number.{answered}
 use Rattle.refusal.specs.Judge.{judge}
-use Rattle.refusal.specs.declared.Verdict.{Verdict}
-use Rattle.refusal.specs.declared.Verdict.TheVariants.{Done, Refused}
+use Rattle.refusal.specs.Judge.{Verdict}
 use Rattle.refusal.proofs.Judged.{after-refused}
 use Rattle.shape.specs.declared.Shape.{Shape}
 use Rattle.plan.specs.Value.{best_plan, has_plan}
@@ -70,7 +70,7 @@ module _ (s : Shape) (ys : List Station) (number cells moves : ℕ) (U : Unforke
         ∙ answer-alike _ _ row-alike moves
 
     chain-planned :
-        planned (plan_answer (net_of s ys number cells) moves).found (plan_answer (net_of s ys number cells) moves)
+        planned (plan_answer (net_of s ys number cells) moves)
         ≡ chain_of s ys number cells moves
     unfolding chain_of plan_answer
     chain-planned =
@@ -88,8 +88,8 @@ module _ (s : Shape) (ys : List Station) (number cells moves : ℕ) (U : Unforke
   unforked-same = go (judge (route_rules s ys number cells moves)) refl
     where
       go : (v : Verdict) → judge (route_rules s ys number cells moves) ≡ v → route_of s ys number cells moves ≡ chain_of s ys number cells moves
-      go Done e = clean-same e
-      go (Refused r) e =
+      go (Ok tt) e = clean-same e
+      go (Err r) e =
           sym (answer-refused s ys number cells moves r e)
           ∙ sym
           (ap (λ w. answered route_zeros w (chain_values s ys number cells moves))

@@ -1,4 +1,5 @@
 -- Judging what was read: each rule from its mark, and what an input that breaks no rule gives. Assumes nothing.
+use Rattle.std.specs.Prelude.{Ok, Err}
 use mathlib.Core.Path.{◌≡◌, refl, sym, ap₂, ◌∙◌, subst}
 use mathlib.Core.Bool.{Bool, true, false, ◌&&◌}
 use mathlib.Core.List.{List, [], ◌∷◌}
@@ -12,8 +13,7 @@ use Rattle.radix.proofs.Tests.{and-false, and_left, and_right, every-not}
 use Rattle.refusal.specs.Judge.{Rule, unless, judge}
 use Rattle.refusal.specs.declared.Refusal.{Refusal}
 use Rattle.refusal.specs.declared.Refusal.TheVariants.{ShapeLimits, Attribute, LayoutRule}
-use Rattle.refusal.specs.declared.Verdict.{Verdict}
-use Rattle.refusal.specs.declared.Verdict.TheVariants.{Done, Refused}
+use Rattle.refusal.specs.Judge.{Verdict}
 use Rattle.refusal.proofs.Judged.{kept, rest}
 use Rattle.shape.specs.Shape.{good_shape}
 use Rattle.shape.specs.declared.Shape.{Shape}
@@ -26,7 +26,7 @@ use Rattle.route.specs.declared.Station.{Station}
 use Rattle.route.specs.declared.load.Loaded.{Loaded}
 
 -- a refusal is not done
-pub not_done : {A : Type 0} (r : Refusal) → Refused r ≡ Done → A
+pub not_done : {A : Type 0} (r : Refusal) → ◌≡◌ {A = Verdict} (Err r) (Ok tt) → A
 not_done r e = absurd (let z : ◌≡◌ {A = ℕ} 0 1 = cc in omega arith)
 
 -- the limits as facts
@@ -84,7 +84,7 @@ pub late-parent :
     good_shape s ≡ true →
     suc i < records_read ys number →
     suc i ≤ (station_at ys (suc i)).parent →
-    judge (route_rules s ys number cells moves) ≡ Refused Attribute
+    judge (route_rules s ys number cells moves) ≡ Err Attribute
 unfolding numbers_kept parents_kept
 late-parent s ys number cells moves i g l h =
     let p : parents_kept ys (records_read ys number) ≡ false =
@@ -97,17 +97,17 @@ late-parent s ys number cells moves i g l h =
 pub rule-first : (x : Rule) (xs : List Rule) → first_refusal (judge (x ∷ [])) (judge xs) ≡ judge (x ∷ xs)
 rule-first x xs = go x.kept
   where
-    go : (b : Bool) → first_refusal (unless b x.otherwise Done) (judge xs) ≡ unless b x.otherwise (judge xs)
+    go : (b : Bool) → first_refusal (unless b x.otherwise (Ok tt)) (judge xs) ≡ unless b x.otherwise (judge xs)
     go true = refl
     go false = refl
 
 -- what was read is what the rules ask for
 module _ (s : Shape) (h : Loaded) (len number cells moves : ℕ) where
-  pub no-shape : good_shape s ≡ false → Judges s h len number cells moves (Refused ShapeLimits)
+  pub no-shape : good_shape s ≡ false → Judges s h len number cells moves (Err ShapeLimits)
   no-shape f = record { limits = λ q. not_done ShapeLimits q; judged = λ ys n e R H. rw f }
 
   module _ (g : good_shape s ≡ true) where
-    pub no-limits : good_limits number cells moves ≡ false → Judges s h len number cells moves (Refused Attribute)
+    pub no-limits : good_limits number cells moves ≡ false → Judges s h len number cells moves (Err Attribute)
     no-limits f = record { limits = λ q. not_done Attribute q; judged = λ ys n e R H. rw (g, f) }
 
     module _ (m : good_limits number cells moves ≡ true) where
@@ -117,7 +117,7 @@ module _ (s : Shape) (h : Loaded) (len number cells moves : ℕ) where
           let q : n ≡ records_read ys number = omega (arith, R.all g few) in
           subst (λ (k : ℕ). Holds s ys k h) q H
 
-      pub no-numbers : h.numbers_kept ≡ false → Judges s h len number cells moves (Refused Attribute)
+      pub no-numbers : h.numbers_kept ≡ false → Judges s h len number cells moves (Err Attribute)
       no-numbers f =
           record {
             limits = λ q. not_done Attribute q;
@@ -125,7 +125,7 @@ module _ (s : Shape) (h : Loaded) (len number cells moves : ℕ) where
           }
 
       module _ (c : h.numbers_kept ≡ true) where
-        pub no-layouts : h.layouts_kept ≡ false → Judges s h len number cells moves (Refused LayoutRule)
+        pub no-layouts : h.layouts_kept ≡ false → Judges s h len number cells moves (Err LayoutRule)
         no-layouts f =
             record {
               limits = λ q. not_done LayoutRule q;

@@ -1,5 +1,6 @@
 -- Laws of a layout that stands twice in a list: a station by itself, one station more, what the rule names, and what it
 -- says where it is kept. Assumes nothing.
+use Rattle.std.specs.Prelude.{Ok, Err}
 use mathlib.Core.Path.{◌≡◌, refl, sym, ap, ◌∙◌, subst}
 use mathlib.Core.Bool.{Bool, true, false, not}
 use mathlib.Core.Logic.{⊎_elim}
@@ -13,7 +14,6 @@ use Rattle.radix.proofs.Lists.{le-or-lt}
 use Rattle.radix.proofs.Tests.{first-is, first-none, first-true, first-before}
 use Rattle.refusal.specs.Judge.{judge}
 use Rattle.refusal.specs.declared.Refusal.TheVariants.{RepeatedLayout}
-use Rattle.refusal.specs.declared.Verdict.TheVariants.{Done, Refused}
 use Rattle.shape.specs.Repeats.{is_repeat, earlier_in, later_in, FirstRepeat, Different}
 use Rattle.shape.proofs.FirstRepeats.{later-found, earlier-found, found-not-free, first_found, none-later, different-free, free-different, repeat-alike}
 use Rattle.route.specs.Stations.{station_at}
@@ -25,10 +25,10 @@ use Rattle.route.specs.declared.Station.{Station}
 pub repeat-named : (x : Station) (i : ℕ) {e l : ℕ} → FirstRepeat (same_at x) x.count e l → repeat_in x i ≡ RepeatedLayout i e l
 repeat-named x i F = rw (earlier-found _ _ F, later-found _ _ F)
 
-pub station-found : (x : Station) (i : ℕ) {e l : ℕ} → FirstRepeat (same_at x) x.count e l → Refused (RepeatedLayout i e l) ≡ station_repeat x i
-station-found x i F = rw (found-not-free _ _ F) (ap Refused (sym (repeat-named x i F)))
+pub station-found : (x : Station) (i : ℕ) {e l : ℕ} → FirstRepeat (same_at x) x.count e l → Err (RepeatedLayout i e l) ≡ station_repeat x i
+station-found x i F = rw (found-not-free _ _ F) (ap Err (sym (repeat-named x i F)))
 
-pub station-free : (x : Station) (i : ℕ) → ((k : ℕ) → k < x.count → is_repeat (same_at x) k ≡ false) → Done ≡ station_repeat x i
+pub station-free : (x : Station) (i : ℕ) → ((k : ℕ) → k < x.count → is_repeat (same_at x) k ≡ false) → (Ok tt) ≡ station_repeat x i
 station-free x i h = rw (le-leb x.count (later_in (same_at x) x.count) (omega (arith, none-later (same_at x) x.count h)))
 
 module _ (ys : List Station) where
@@ -73,8 +73,8 @@ module _ (ys : List Station) where
           first-is twice n i F.read (ap not (found-not-free _ _ F.here))
           (λ j h. ap not (different-free (same_at (station_at ys j)) (station_at ys j).count (F.before j h)))
 
-      pub rule-named : judge (repeat_rule ys n ∷ []) ≡ Refused (RepeatedLayout i e l)
-      rule-named = rw (station-is, lt-leb n i F.read) (ap Refused (repeat-named (station_at ys i) i F.here))
+      pub rule-named : judge (repeat_rule ys n ∷ []) ≡ Err (RepeatedLayout i e l)
+      rule-named = rw (station-is, lt-leb n i F.read) (ap Err (repeat-named (station_at ys i) i F.here))
 
     -- and where the rule is broken, what it names is the first repeat
     abbrev found : Station

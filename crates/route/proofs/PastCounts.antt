@@ -1,5 +1,6 @@
 -- What a record holds past its counts alters nothing, nor does the first station's parent: lists of stations that agree
 -- up to these have one answer. Assumes nothing.
+use Rattle.std.specs.Prelude.{Ok, Err}
 use mathlib.Core.Path.{◌≡◌, refl, sym, ap, ap₂, ◌∙◌}
 use mathlib.Core.Bool.{Bool, ◌&&◌, cond}
 use mathlib.Core.List.{List, ◌∷◌}
@@ -11,8 +12,7 @@ use Rattle.radix.specs.Radix.{max_count, every}
 use Rattle.radix.proofs.Tests.{every-agree}
 use Rattle.refusal.specs.Judge.{Rule, unless, judge}
 use Rattle.refusal.specs.declared.Refusal.TheVariants.{ShapeLimits, Attribute, LayoutRule}
-use Rattle.refusal.specs.declared.Verdict.{Verdict}
-use Rattle.refusal.specs.declared.Verdict.TheVariants.{Done, Refused}
+use Rattle.refusal.specs.Judge.{Verdict}
 use Rattle.shape.specs.Shape.{good_shape}
 use Rattle.shape.specs.declared.Shape.{Shape}
 use Rattle.layout.specs.Layout.{good_layout, padded_of}
@@ -123,5 +123,5 @@ module _ (s : Shape) (xs ys : List Station) (A : StationsAgree xs ys) where
     past-counts = go (judge (route_rules s xs number cells moves)) refl
       where
         go : (v : Verdict) → judge (route_rules s xs number cells moves) ≡ v → route_of s xs number cells moves ≡ route_of s ys number cells moves
-        go Done e = done-agree e
-        go (Refused r) e = sym (answer-refused s xs number cells moves r e) ∙ answer-refused s ys number cells moves r (sym rules-agree ∙ e)
+        go (Ok tt) e = done-agree e
+        go (Err r) e = sym (answer-refused s xs number cells moves r e) ∙ answer-refused s ys number cells moves r (sym rules-agree ∙ e)

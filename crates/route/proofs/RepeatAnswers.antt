@@ -1,4 +1,5 @@
 -- The answer to a list that holds a layout twice: given where it is due, and only there. Assumes nothing.
+use Rattle.std.specs.Prelude.{Ok, Err}
 use mathlib.Core.Path.{◌≡◌, refl, sym, ap, ◌∙◌, subst}
 use mathlib.Core.Bool.{Bool, true, false, ◌&&◌}
 use mathlib.Core.List.{List, [], ◌∷◌, head-eq_of_cons-eq, tail-eq_of_cons-eq}
@@ -11,8 +12,7 @@ use Rattle.refusal.specs.Number.{places_of, refusal, answered}
 use Rattle.refusal.specs.Judge.{unless, judge}
 use Rattle.refusal.specs.declared.Refusal.{Refusal}
 use Rattle.refusal.specs.declared.Refusal.TheVariants.{ShapeLimits, Attribute, RepeatedLayout, LayoutRule, PaddedSize, ShortBuffer, NoPlan}
-use Rattle.refusal.specs.declared.Verdict.{Verdict}
-use Rattle.refusal.specs.declared.Verdict.TheVariants.{Done, Refused}
+use Rattle.refusal.specs.Judge.{Verdict}
 use Rattle.shape.specs.Shape.{good_shape}
 use Rattle.shape.specs.declared.Shape.{Shape}
 use Rattle.shape.specs.Repeats.{earlier_in}
@@ -41,12 +41,12 @@ module _ (s : Shape) (ys : List Station) (number cells moves : ℕ) where
       route_of s ys number cells moves ≡ refusal route_zeros (RepeatedLayout i e l)
   answer-repeat g m c k {i} {e} {l} F = sym (answer-refused s ys number cells moves (RepeatedLayout i e l) judged)
     where
-      rest : judge (repeat_rule ys n ∷ size_rules (sizes_kept s ys n) (length ys) number) ≡ Refused (RepeatedLayout i e l)
+      rest : judge (repeat_rule ys n ∷ size_rules (sizes_kept s ys n) (length ys) number) ≡ Err (RepeatedLayout i e l)
       rest =
           sym (rule-first (repeat_rule ys n) (size_rules (sizes_kept s ys n) (length ys) number))
           ∙ ap (λ (v : Verdict). first_refusal v (judge (size_rules (sizes_kept s ys n) (length ys) number))) (rule-named ys n F)
 
-      judged : judge (route_rules s ys number cells moves) ≡ Refused (RepeatedLayout i e l)
+      judged : judge (route_rules s ys number cells moves) ≡ Err (RepeatedLayout i e l)
       judged = rw (g, m, c, k) rest
 
   module _ (i e l : ℕ) where
@@ -66,13 +66,13 @@ module _ (s : Shape) (ys : List Station) (number cells moves : ℕ) where
     abbrev after : Verdict
     after =
         unless (sizes_kept s ys n) PaddedSize
-        (unless (leb number (length ys)) ShortBuffer (unless (has_plan (tree_of s ys number cells) moves) NoPlan Done))
+        (unless (leb number (length ys)) ShortBuffer (unless (has_plan (tree_of s ys number cells) moves) NoPlan (Ok tt)))
 
     none_after : {A : Type 0} → Names after → A
     none_after p =
         let p2 = (passed (sizes_kept s ys n) PaddedSize _ refl p).1 in
         let p3 = (passed (leb number (length ys)) ShortBuffer _ refl p2).1 in
-        none_named (passed (has_plan (tree_of s ys number cells) moves) NoPlan Done refl p3).1
+        none_named (passed (has_plan (tree_of s ys number cells) moves) NoPlan (Ok tt) refl p3).1
 
     named : Names (unless (repeat_rule ys n).kept (repeat_rule ys n).otherwise after) → FirstLayoutRepeat ys n i e l
     named q = go (repeat_rule ys n).kept refl q

@@ -3,12 +3,14 @@ use mathlib.Core.Path.{◌≡◌, refl, sym, ap, ◌∙◌}
 use mathlib.Core.Bool.{Bool, true, false, ◌&&◌}
 use mathlib.Core.Logic.{◌⊎◌, inl, inr, ⊎_elim}
 use mathlib.Core.List.{List}
-use Prim.Native.Nat.{ℕ, ◌+◌, ◌-◌, ◌<◌, ◌≤◌}
+use Prim.Native.Nat.{ℕ, zero, suc, ◌+◌, ◌-◌, ◌<◌, ◌≤◌}
 use native.Mathlib.Nat.{eq-or-lt_of_le}
 use native.Mathlib.Numerals.{add-one}
 use native.Mathlib.Omega.{arith}
-use lib.ListN.{length, get_or, set, length-set}
+use lib.ListN.{length, get_or, take, set, length-set}
 use lib.Seq.{get_or-set_same, get_or-set_other}
+use Rattle.std.specs.List.{list_all}
+use Rattle.std.proofs.lemmas.List.Folds.{list_all_more}
 use Rattle.radix.specs.Radix.{every}
 use Rattle.radix.proofs.Lists.{le-or-lt}
 use Rattle.radix.proofs.Tests.{and-false}
@@ -32,6 +34,13 @@ and_both false b c d = refl
 -- one number more
 pub every-next : (f : ℕ → Bool) (n : ℕ) → every f (n + 1) ≡ (every f n && f n)
 every-next f n = rw add-one refl
+
+-- a test of each element of a front, by its places
+pub all-every : {A : Type 0} (p : A → Bool) (d : A) (xs : List A) (n : ℕ) → n ≤ length xs → list_all p (take n xs) ≡ every (λ (k : ℕ). p (get_or xs k d)) n
+all-every p d xs zero l = refl
+all-every p d xs (suc n) l =
+    rw (← add-one n) (list_all_more p xs n d (omega arith))
+    ∙ ap (λ (b : Bool). b && p (get_or xs n d)) (all-every p d xs n (omega arith))
 
 module _ {all : Bool} (before this : Bool) (e : all ≡ (before && this)) where
   pub still_kept : this ≡ true → all ≡ before

@@ -1,5 +1,6 @@
 -- The theorems on a route: refused exactly when no plan is admitted; else the plan is admitted, least, and first in
 -- list order among equals. Assumes nothing.
+use Rattle.std.specs.Prelude.{Err}
 use mathlib.Core.Path.{◌≡◌, refl, sym, ap, ◌∙◌}
 use mathlib.Core.Bool.{Bool, true, false, cond}
 use mathlib.Core.Logic.{◌⊎◌}
@@ -12,7 +13,6 @@ use Rattle.refusal.specs.Number.{Answer, done, refusal}
 use Rattle.refusal.specs.Judge.{judge}
 use Rattle.refusal.specs.declared.Refusal.{Refusal}
 use Rattle.refusal.specs.declared.Refusal.TheVariants.{Attribute, RepeatedLayout, NoPlan}
-use Rattle.refusal.specs.declared.Verdict.TheVariants.{Refused}
 use Rattle.shape.specs.Shape.{good_shape}
 use Rattle.shape.specs.declared.Shape.{Shape}
 use Rattle.layout.specs.declared.Layout.{Layout}
@@ -61,7 +61,7 @@ past-counts-alter-nothing = past-counts
 -- Where one of the rules 1 to 9 is broken, the answer is the refusal of the first, with zeros for all values.
 pub rule-refused :
     (s : Shape) (ys : List Station) (number cells moves : ℕ) (r : Refusal) →
-    judge (route_rules s ys number cells moves) ≡ Refused r →
+    judge (route_rules s ys number cells moves) ≡ Err r →
     route_of s ys number cells moves ≡ refusal route_zeros r
 rule-refused s ys number cells moves r e = sym (answer-refused s ys number cells moves r e)
 

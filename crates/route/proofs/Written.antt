@@ -2,8 +2,10 @@
 use mathlib.Core.Path.{◌≡◌, refl, sym, ap, ap₂, ◌∙◌}
 use mathlib.Core.Bool.{Bool, true, false, ◌&&◌}
 use mathlib.Core.List.{List, [], ◌∷◌}
-use Prim.Native.Nat.{ℕ, zero, suc, ◌+◌, ◌*◌, ◌<◌, ◌≤◌}
+use Prim.Native.Nat.{ℕ, zero, suc, ◌+◌, ◌-◌, ◌*◌, ◌<◌, ◌≤◌}
 use native.Mathlib.Omega.{arith}
+use native.Mathlib.Nat.{add-sub_cancel_left}
+use lib.Pointwise.{pointwise}
 use lib.Dec.{eqb}
 use lib.ListN.{length, get_or, take, drop, drop_of_length-le}
 use borrow.Author.Tests.{eqb-true, eq-eqb}
@@ -24,19 +26,6 @@ other_length f [] [] n = absurd (n refl)
 other_length f [] (y ∷ ys) n = refl
 other_length f (x ∷ xs) [] n = refl
 other_length f (x ∷ xs) (y ∷ ys) n = and-false (f x y) (other_length f xs ys (λ e. n (ap suc e)))
-
--- entry i and what is left after it
-pub same-at :
-    (xs ys : List ℕ) (i : ℕ) →
-    i < length xs →
-    i < length ys →
-    same_list (drop i xs) (drop i ys) ≡ (eqb (get_or xs i 0) (get_or ys i 0) && same_list (drop (i + 1) xs) (drop (i + 1) ys))
-unfolding same_by
-same-at xs ys i h g = ap₂ same_list (rest-of xs i h) (rest-of ys i g)
-
-pub same_end : (xs ys : List ℕ) (i : ℕ) → length xs ≤ i → length ys ≤ i → same_list (drop i xs) (drop i ys) ≡ true
-unfolding same_by
-same_end xs ys i h g = ap₂ same_list (drop_of_length-le xs h) (drop_of_length-le ys g)
 
 -- the tiles from tile l on
 abbrev pub tiles_after : List ℕ → List ℕ → ℕ → List (List ℕ)
@@ -69,6 +58,35 @@ last-tile lens flat lens2 flat2 l h g =
     ap₂ (λ (r r2 : List ℕ). same_tiles (tiles_from r (drop (max_entries * l) flat)) (tiles_from r2 (drop (max_entries * l) flat2)))
     (drop_of_length-le lens h)
     (drop_of_length-le lens2 g)
+
+-- what `==` says of two lists
+list-is : (xs ys : List ℕ) → pointwise eqb xs ys ≡ same_list xs ys
+unfolding same_by
+list-is [] [] = refl
+list-is [] (y ∷ ys) = refl
+list-is (x ∷ xs) [] = refl
+list-is (x ∷ xs) (y ∷ ys) = ap (λ (b : Bool). eqb x y && b) (list-is xs ys)
+
+pub order-is : (r : Bool) (xs ys zs ws : List ℕ) → r ≡ pointwise eqb xs ys → xs ≡ zs → ys ≡ ws → r ≡ same_list zs ws
+order-is r xs ys zs ws e p q = e ∙ list-is xs ys ∙ ap₂ same_list p q
+
+-- and of two tiles
+pub same-pair :
+    (lens flat lens2 flat2 : List ℕ) (l : ℕ) (r : Bool) →
+    l < length lens →
+    l < length lens2 →
+    r
+    ≡ pointwise eqb (take (max_entries * l + get_or lens l 0 - max_entries * l) (drop (max_entries * l) flat))
+    (take (max_entries * l + get_or lens2 l 0 - max_entries * l) (drop (max_entries * l) flat2)) →
+    same_tiles (tiles_after lens flat l) (tiles_after lens2 flat2 l)
+    ≡ (r && same_tiles (tiles_after lens flat (l + 1)) (tiles_after lens2 flat2 (l + 1)))
+same-pair lens flat lens2 flat2 l r h g e =
+    same-tile lens flat lens2 flat2 l h g
+    ∙ ap (λ (b : Bool). b && same_tiles (tiles_after lens flat (l + 1)) (tiles_after lens2 flat2 (l + 1)))
+    (sym
+    (order-is r _ _ (tile_at lens flat l) (tile_at lens2 flat2 l) e
+    (ap (λ (m : ℕ). take m (drop (max_entries * l) flat)) (add-sub_cancel_left (max_entries * l) (get_or lens l 0)))
+    (ap (λ (m : ℕ). take m (drop (max_entries * l) flat2)) (add-sub_cancel_left (max_entries * l) (get_or lens2 l 0)))))
 
 tiles-length : (lens flat : List ℕ) → length (tiles_from lens flat) ≡ length lens
 tiles-length [] flat = refl

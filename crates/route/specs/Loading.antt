@@ -1,9 +1,9 @@
 -- What is kept of the stations read so far. Assumes nothing.
-use Rattle.std.specs.Prelude.{ℕ, ◌+◌, ◌*◌, ◌/◌, ◌%◌, ◌≤◌, ◌<◌, min, ◌≡◌, Bool, true, ◌&&◌, cond, ◌⊎◌, List, [], ◌∷◌, leb, ltb, length, get_or}
+use Rattle.std.specs.Prelude.{ℕ, ◌+◌, ◌*◌, ◌/◌, ◌%◌, ◌≤◌, ◌<◌, min, ◌≡◌, Bool, true, ◌&&◌, cond, ◌⊎◌, List, [], ◌∷◌, leb, ltb, length, get_or, Ok, Err, Result}
 use Rattle.refusal.specs.Judge.{Rule, rule, unless, judge}
+use Rattle.refusal.specs.declared.Refusal.{Refusal}
 use Rattle.refusal.specs.declared.Refusal.TheVariants.{PaddedSize, ShortBuffer}
-use Rattle.refusal.specs.declared.Verdict.{Verdict}
-use Rattle.refusal.specs.declared.Verdict.TheVariants.{Done, Refused}
+use Rattle.refusal.specs.Judge.{Verdict}
 use Rattle.radix.specs.Radix.{max_count}
 use Rattle.shape.specs.Shape.{good_shape}
 use Rattle.shape.specs.declared.Shape.{Shape}
@@ -50,12 +50,12 @@ move_at x y t =
 
 -- the first of two verdicts, in their order, that refuses
 abbrev pub first_refusal : Verdict → Verdict → Verdict
-first_refusal Done w = w
-first_refusal (Refused r) w = Refused r
+first_refusal (Ok _) w = w
+first_refusal (Err r) w = Err r
 
 -- what the list of station i says by itself: refused at its first repeat
 abbrev pub station_repeat : Station → ℕ → Verdict
-station_repeat x i = unless (all_different x) (repeat_in x i) Done
+station_repeat x i = unless (all_different x) (repeat_in x i) (Ok tt)
 
 -- the tables hold what the first n stations give
 pub record Entered (s : Shape) (ys : List Station) (n : ℕ) (h : Loaded) : Type 0 where
@@ -115,7 +115,7 @@ size_rules sizes len number = rule sizes PaddedSize ∷ rule (leb number len) Sh
 
 -- what the rules 1 to 9 say of every list of length len of which this was read
 pub record Judges (s : Shape) (h : Loaded) (len number cells moves : ℕ) (v : Verdict) : Type 0 where
-  pub limits : v ≡ Done → good_limits number cells moves ≡ true
+  pub limits : v ≡ Ok tt → good_limits number cells moves ≡ true
   pub judged :
       (ys : List Station) (n : ℕ) →
       length ys ≡ len →
@@ -124,7 +124,7 @@ pub record Judges (s : Shape) (h : Loaded) (len number cells moves : ℕ) (v : V
       v ≡ judge (route_rules s ys number cells moves)
 
 -- what the whole call says of it
-pub record Answers (s : Shape) (h : Loaded) (len number cells moves : ℕ) (r : Route) : Type 0 where
+pub record Answers (s : Shape) (h : Loaded) (len number cells moves : ℕ) (r : Result Route Refusal) : Type 0 where
   pub answer :
       (ys : List Station) (n : ℕ) →
       length ys ≡ len →

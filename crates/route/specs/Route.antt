@@ -1,12 +1,11 @@
 -- What the planning call answers: the rules in the order of their numbers, and the best plan with its cost. Assumes
 -- nothing.
-use Rattle.std.specs.Prelude.{ℕ, ◌+◌, min, ◌≡◌, Bool, ◌&&◌, List, [], ◌∷◌, ◌++◌, leb, length, replicate}
+use Rattle.std.specs.Prelude.{ℕ, ◌+◌, min, ◌≡◌, Bool, ◌&&◌, List, [], ◌∷◌, ◌++◌, leb, length, replicate, Ok, Err, Result}
 use Rattle.radix.specs.Radix.{max_count}
-use Rattle.refusal.specs.Number.{Answer, answered, verdict_answer}
+use Rattle.refusal.specs.Number.{Answer, done, refusal, answered}
 use Rattle.refusal.specs.Judge.{Rule, rule, judge}
 use Rattle.refusal.specs.declared.Refusal.{Refusal}
 use Rattle.refusal.specs.declared.Refusal.TheVariants.{ShapeLimits, Attribute, LayoutRule, PaddedSize, ShortBuffer, NoPlan}
-use Rattle.refusal.specs.declared.Verdict.TheVariants.{Done, Refused}
 use Rattle.shape.specs.Shape.{good_shape}
 use Rattle.shape.specs.declared.Shape.{Shape}
 use Rattle.plan.specs.Answer.{max_stations, spread}
@@ -47,7 +46,7 @@ route_rules s ys number cells moves =
 
 -- the input breaks no rule: none of 1 to 9 applies
 abbrev pub breaks_no_rule : Shape → List Station → ℕ → ℕ → ℕ → Type 0
-breaks_no_rule s ys number cells moves = judge (route_rules s ys number cells moves) ≡ Done
+breaks_no_rule s ys number cells moves = judge (route_rules s ys number cells moves) ≡ Ok tt
 
 -- rule 10: a plan is admitted
 abbrev pub plan_rule : Shape → List Station → ℕ → ℕ → ℕ → Rule
@@ -73,14 +72,6 @@ route_of s ys number cells moves =
     (route_values s ys number cells moves)
 
 -- the answer on paper of what the call hands back
-abbrev pub route_answer : Route → Answer ℕ
-route_answer r =
-    record {
-      number = (verdict_answer r.verdict).number;
-      values = r.places ++ (r.total ∷ []);
-      places = (verdict_answer r.verdict).places;
-    }
-
--- no route, with its refusal
-abbrev pub no_route_of : Refusal → Route
-no_route_of r = record { verdict = Refused r; places = replicate max_stations 0; total = 0 }
+abbrev pub route_answer : Result Route Refusal → Answer ℕ
+route_answer (Ok r) = done (r.places ++ (r.total ∷ []))
+route_answer (Err r) = refusal route_zeros r

@@ -5,16 +5,14 @@ mod load;
 mod repeats;
 mod same;
 
-ghost use Rattle.std.specs.Prelude.{◌≡◌, min, take};
+ghost use Rattle.std.specs.Prelude.{◌≡◌, take};
 ghost use Rattle.refusal.specs.Judge.{judge};
-ghost use Rattle.plan.specs.Answer.{max_stations};
-ghost use Rattle.route.specs.Route.{good_limits, no_route_of, route_answer, route_of};
+ghost use Rattle.route.specs.Route.{good_limits, route_answer, route_of};
 ghost use Rattle.route.specs.Loading.{Sound, size_rules, Judges, Answers};
 
 use layout::Layout;
 use load::Loaded;
-use refusal::{Refusal, Verdict};
-use repeats::first_refusal;
+use refusal::Refusal;
 use shape::Shape;
 use tree_planner::TreeTables;
 
@@ -34,44 +32,36 @@ pub struct Station {
     pub layouts: [Layout; 8],
 }
 
-// The answer of best_route: a place for each station, 0 in the unused ones, and the plan's cost; zeros when refused.
+// A place for each station, 0 in the unused ones, and the plan's cost.
 #[derive(Clone, Copy)]
 pub struct Route {
-    pub verdict: Verdict,
     pub places: [usize; 64],
     pub total: u64,
 }
 
 // The number of stations, the cell limit and the limit on moves keep their rules.
+#[tactic(auto, unfolding(crate::specs::Route::good_limits))]
 fn good_limits(number: usize, cells: u64, moves: usize) -> bool
     ensures { result ≡ good_limits number cells moves }
 {
-    if number < 1 {
-        return false;
-    }
-    if MAX_STATIONS < number {
-        return false;
-    }
-    if cells < 1 {
-        return false;
-    }
-    if radix::MAX_COUNT < cells {
-        return false;
-    }
-    moves <= MAX_MOVES
+    1 <= number
+        && number <= MAX_STATIONS
+        && 1 <= cells
+        && cells <= radix::MAX_COUNT
+        && moves <= MAX_MOVES
 }
 
 // The rules 4 and 9: whether the padded sizes keep their rule, and the length of the lent list.
-fn judge_sizes(kept: bool, len: usize, number: usize) -> Verdict
+fn judge_sizes(kept: bool, len: usize, number: usize) -> Result<(), Refusal>
     ensures { result ≡ judge (size_rules kept len number) }
 {
     if !kept {
-        return Verdict::Refused(Refusal::PaddedSize);
+        return Err(Refusal::PaddedSize);
     }
     if len < number {
-        return Verdict::Refused(Refusal::ShortBuffer);
+        return Err(Refusal::ShortBuffer);
     }
-    Verdict::Done
+    Ok(())
 }
 
 // The rules 1 to 9, in the order of their numbers; len is the length of the lent list.
@@ -82,34 +72,23 @@ fn judge_route(
     number: usize,
     cells: u64,
     moves: usize,
-) -> Verdict
+) -> Result<(), Refusal>
     ensures { Judges shape loaded len number cells moves result }
 {
     if !shape::good_shape(shape) {
-        return Verdict::Refused(Refusal::ShapeLimits);
+        return Err(Refusal::ShapeLimits);
     }
     if !good_limits(number, cells, moves) {
-        return Verdict::Refused(Refusal::Attribute);
+        return Err(Refusal::Attribute);
     }
     if !loaded.numbers_kept {
-        return Verdict::Refused(Refusal::Attribute);
+        return Err(Refusal::Attribute);
     }
     if !loaded.layouts_kept {
-        return Verdict::Refused(Refusal::LayoutRule);
+        return Err(Refusal::LayoutRule);
     }
-    let repeat = loaded.repeat;
-    first_refusal(repeat, judge_sizes(loaded.sizes_kept, len, number))
-}
-
-// No route, with its refusal.
-fn no_route(refusal: Refusal) -> Route
-    ensures { result ≡ no_route_of refusal }
-{
-    Route {
-        verdict: Verdict::Refused(refusal),
-        places: [0usize; 64],
-        total: 0,
-    }
+    loaded.repeat?;
+    judge_sizes(loaded.sizes_kept, len, number)
 }
 
 // The answer from what was read of a list of length len.
@@ -120,36 +99,27 @@ fn finish(
     number: usize,
     cells: u64,
     moves: usize,
-) -> Route
+) -> Result<Route, Refusal>
     requires { Sound loaded }
     ensures { Answers shape loaded len number cells moves result }
 {
-    match judge_route(shape, loaded, len, number, cells, moves) {
-        Verdict::Refused(r) => no_route(r),
-        Verdict::Done => {
-            let parents = loaded.parents;
-            let counts = loaded.counts;
-            let sizes = loaded.sizes;
-            let moved = loaded.moved;
-            let tables = TreeTables {
-                parents,
-                counts,
-                sizes,
-                moved,
-            };
-            let p = tree_planner::best_tree_plan(tables, number, cells, moves);
-            if p.found {
-                let places = p.places;
-                Route {
-                    verdict: Verdict::Done,
-                    places,
-                    total: p.total,
-                }
-            } else {
-                no_route(Refusal::NoPlan)
-            }
-        }
-    }
+    judge_route(shape, loaded, len, number, cells, moves)?;
+    let parents = loaded.parents;
+    let counts = loaded.counts;
+    let sizes = loaded.sizes;
+    let moved = loaded.moved;
+    let tables = TreeTables {
+        parents,
+        counts,
+        sizes,
+        moved,
+    };
+    let plan = tree_planner::best_tree_plan(tables, number, cells, moves).ok_or(Refusal::NoPlan)?;
+    let places = plan.places;
+    Ok(Route {
+        places,
+        total: plan.total,
+    })
 }
 
 // The cheapest plan through the first `number` stations of the list.
@@ -159,24 +129,13 @@ pub fn best_route(
     number: usize,
     cells: u64,
     moves: usize,
-) -> Route
+) -> Result<Route, Refusal>
     ensures { route_answer result ≡ route_of shape stations.now number cells moves }
 {
     let len = stations.len();
     let n = load::records(shape, number, len);
     let loaded = load::load(shape, stations, n, load::empty());
     finish(shape, loaded, len, number, cells, moves)
-}
-
-// How many of 64 records to lend.
-fn at_most(lent: usize) -> usize
-    ensures { result ≡ min lent max_stations }
-{
-    if lent < MAX_STATIONS {
-        lent
-    } else {
-        MAX_STATIONS
-    }
 }
 
 // The same for stations by value, of which the first `lent` are lent.
@@ -187,9 +146,9 @@ pub fn best_route_of(
     number: usize,
     cells: u64,
     moves: usize,
-) -> Route
+) -> Result<Route, Refusal>
     ensures { route_answer result ≡ route_of shape (take lent stations) number cells moves }
 {
-    let n = at_most(lent);
+    let n = lent.min(MAX_STATIONS);
     best_route(shape, &stations[..n], number, cells, moves)
 }

@@ -5,9 +5,9 @@ ghost use Rattle.plan.specs.Answer.{max_stations};
 ghost use Rattle.route.specs.Stations.{max_layouts, station_at, good_count, good_parent, good_layouts, good_sizes};
 ghost use Rattle.route.specs.Loading.{Reads, Fit, Filled, feeding, capped_size, move_at, Sound, Ready, Starts, Adds, Loads, Holds};
 
-use super::repeats::{first_refusal, station_repeat};
+use super::repeats::station_repeat;
 use super::{Station, same};
-use refusal::Verdict;
+use refusal::Refusal;
 use shape::Shape;
 
 // Whether the numbers (counts and parents), the layouts and the padded sizes keep their rules; the first layout that
@@ -16,7 +16,7 @@ use shape::Shape;
 pub struct Loaded {
     pub numbers_kept: bool,
     pub layouts_kept: bool,
-    pub repeat: Verdict,
+    pub repeat: Result<(), Refusal>,
     pub sizes_kept: bool,
     pub parents: [usize; 64],
     pub counts: [usize; 64],
@@ -31,7 +31,7 @@ pub fn empty() -> Loaded
     Loaded {
         numbers_kept: true,
         layouts_kept: true,
-        repeat: Verdict::Done,
+        repeat: Ok(()),
         sizes_kept: true,
         parents: [0usize; 64],
         counts: [0usize; 64],
@@ -45,49 +45,39 @@ pub fn empty() -> Loaded
 pub fn records(shape: Shape, number: usize, len: usize) -> usize
     ensures { Reads shape number len result }
 {
-    if !shape::good_shape(shape) {
-        return 0;
+    if shape::good_shape(shape) && number <= super::MAX_STATIONS {
+        number.min(len)
+    } else {
+        0
     }
-    if super::MAX_STATIONS < number {
-        return 0;
-    }
-    if number < len { number } else { len }
-}
-
-// Both hold.
-fn both(a: bool, b: bool) -> bool
-    ensures { result ≡ (a && b) }
-{
-    if a { b } else { false }
 }
 
 // The station has 1 to 8 layouts.
 fn good_count(station: Station) -> bool
     ensures { result ≡ good_count station }
 {
-    let count = station.count;
-    if count < 1 {
-        return false;
-    }
-    count <= super::MAX_LAYOUTS
+    1 <= station.count && station.count <= super::MAX_LAYOUTS
 }
 
 // Station i is the first, or its parent is an earlier station.
 fn good_parent(i: usize, station: Station) -> bool
     ensures { result ≡ good_parent i station }
 {
-    if i == 0 {
-        return true;
-    }
-    station.parent < i
+    i == 0 || station.parent < i
+}
+
+// The count of station i and its parent keep their rules.
+fn good_numbers(i: usize, station: Station) -> bool
+    ensures { result ≡ (good_count station && good_parent i station) }
+{
+    good_count(station) && good_parent(i, station)
 }
 
 // The station that feeds station i: its parent where that is an earlier one, else station i itself.
 fn feeding_station(i: usize, station: Station) -> usize
     ensures { result ≡ feeding i station }
 {
-    let parent = station.parent;
-    if parent < i { parent } else { i }
+    station.parent.min(i)
 }
 
 // Every layout of the station keeps its rule.
@@ -95,17 +85,9 @@ fn good_layouts(rank: usize, station: Station) -> bool
     requires { station.count ≤ max_layouts }
     ensures { result ≡ good_layouts rank station }
 {
-    let count = station.count;
-    let layouts = station.layouts;
-    let mut a: usize = 0;
-    while a < count {
-        if layout::good_layout(rank, layouts[a]) {
-            a += 1;
-        } else {
-            return false;
-        }
-    }
-    true
+    station.layouts[..station.count]
+        .iter()
+        .all(|layout| layout::good_layout(rank, *layout))
 }
 
 // Enters the padded sizes of a station from entry at on. Every one is at most 2^40.
@@ -115,17 +97,13 @@ fn enter_sizes(shape: Shape, station: Station, at: usize, sizes: &mut [u64]) -> 
     ensures value { result ≡ good_sizes shape station }
     ensures filled { Filled sizes.old sizes.new at station.count (capped_size shape station) }
 {
-    let count = station.count;
-    let layouts = station.layouts;
     let mut kept = true;
-    let mut a: usize = 0;
-    while a < count {
-        let size = layout::inner::padded_capped(shape, layouts[a]);
+    for a in 0..station.count {
+        let size = layout::inner::padded_capped(shape, station.layouts[a]);
         sizes[at + a] = size;
         if radix::MAX_COUNT < size {
             kept = false;
         }
-        a += 1;
     }
     kept
 }
@@ -138,19 +116,11 @@ fn move_at(rank: usize, from: Station, to: Station, t: usize) -> usize
     ensures { result ≡ move_at from to t }
 {
     let a = t / super::MAX_LAYOUTS;
-    if from.count <= a {
-        return 0;
-    }
     let b = t % super::MAX_LAYOUTS;
-    if to.count <= b {
-        return 0;
-    }
-    let x = from.layouts;
-    let y = to.layouts;
-    if same::same_layout(rank, x[a], y[b]) {
-        0
-    } else {
+    if a < from.count && b < to.count && !same::same_layout(rank, from.layouts[a], to.layouts[b]) {
         1
+    } else {
+        0
     }
 }
 
@@ -161,11 +131,8 @@ fn enter_moves(rank: usize, from: Station, to: Station, at: usize, moved: &mut [
     requires fit_2 { Fit rank to }
     ensures { Filled moved.old moved.new at (max_layouts * max_layouts) (move_at from to) }
 {
-    let n = super::MAX_LAYOUTS * super::MAX_LAYOUTS;
-    let mut t: usize = 0;
-    while t < n {
+    for t in 0..super::MAX_LAYOUTS * super::MAX_LAYOUTS {
         moved[at + t] = move_at(rank, from, to, t);
-        t += 1;
     }
 }
 
@@ -177,8 +144,7 @@ fn enter(shape: Shape, loaded: Loaded, i: usize, station: Station, from: Station
     requires fit { Fit shape.rank from }
     ensures { Adds shape loaded i station from result }
 {
-    let before = loaded.repeat;
-    let repeat = first_refusal(before, station_repeat(shape.rank, station, i));
+    let repeat = loaded.repeat.and(station_repeat(shape.rank, station, i));
     let mut parents = loaded.parents;
     parents[i] = feeding_station(i, station);
     let mut counts = loaded.counts;
@@ -191,7 +157,7 @@ fn enter(shape: Shape, loaded: Loaded, i: usize, station: Station, from: Station
         numbers_kept: loaded.numbers_kept,
         layouts_kept: loaded.layouts_kept,
         repeat,
-        sizes_kept: both(loaded.sizes_kept, kept),
+        sizes_kept: loaded.sizes_kept && kept,
         parents,
         counts,
         sizes,
@@ -205,20 +171,15 @@ pub fn add(shape: Shape, loaded: Loaded, i: usize, station: Station, from: Stati
     requires { Ready shape loaded i station from }
     ensures { Adds shape loaded i station from result }
 {
-    if !both(good_count(station), good_parent(i, station)) {
-        let mut next = loaded;
+    let mut next = loaded;
+    if !good_numbers(i, station) {
         next.numbers_kept = false;
-        return next;
-    }
-    if !good_layouts(shape.rank, station) {
-        let mut next = loaded;
+    } else if !good_layouts(shape.rank, station) {
         next.layouts_kept = false;
-        return next;
+    } else if loaded.numbers_kept && loaded.layouts_kept {
+        next = enter(shape, loaded, i, station, from);
     }
-    if !both(loaded.numbers_kept, loaded.layouts_kept) {
-        return loaded;
-    }
-    enter(shape, loaded, i, station, from)
+    next
 }
 
 // Reads the first n records of the list.
@@ -227,12 +188,10 @@ pub fn load(shape: Shape, stations: &[Station], n: usize, start: Loaded) -> Load
     ensures { Holds shape stations.now n result }
 {
     let mut loaded = start;
-    let mut i: usize = 0;
-    while i < n {
+    for i in 0..n {
         let station = stations[i];
         let from = feeding_station(i, station);
         loaded = add(shape, loaded, i, station, stations[from]);
-        i += 1;
     }
     loaded
 }

@@ -3,26 +3,9 @@ ghost use Rattle.std.specs.Prelude.{◌≡◌, true, ◌*◌, ◌≤◌, length}
 ghost use Rattle.radix.specs.Radix.{Upto};
 ghost use Rattle.tiling.specs.Tile.{max_tiles, max_entries, tiles_from};
 ghost use Rattle.layout.specs.Layout.{good_layout};
-ghost use Rattle.route.specs.Same.{same_list, same_tiles, same_layout};
+ghost use Rattle.route.specs.Same.{same_tiles, same_layout};
 
 use layout::Layout;
-
-// Two lists of numbers are the same.
-fn same_list(xs: &[u64], ys: &[u64]) -> bool
-    ensures { result ≡ same_list xs.now ys.now }
-{
-    if xs.len() != ys.len() {
-        return false;
-    }
-    let mut i: usize = 0;
-    while i < xs.len() {
-        if xs[i] != ys[i] {
-            return false;
-        }
-        i += 1;
-    }
-    true
-}
 
 // Two lists of tiles are the same, each as its lengths and its entries, six places to a tile.
 fn same_tiles(lens: &[usize], flat: &[u64], lens2: &[usize], flat2: &[u64]) -> bool
@@ -34,14 +17,11 @@ fn same_tiles(lens: &[usize], flat: &[u64], lens2: &[usize], flat2: &[u64]) -> b
     if lens.len() != lens2.len() {
         return false;
     }
-    let mut l: usize = 0;
-    while l < lens.len() {
+    for l in 0..lens.len() {
         let a = layout::MAX_ENTRIES * l;
         let e = a + lens[l];
         let o = a + lens2[l];
-        if same_list(&flat[a..e], &flat2[a..o]) {
-            l += 1;
-        } else {
+        if flat[a..e] != flat2[a..o] {
             return false;
         }
     }
@@ -53,16 +33,11 @@ pub fn same_layout(rank: usize, a: Layout, b: Layout) -> bool
     requires { (good_layout rank a ≡ true) × (good_layout rank b ≡ true) }
     ensures { result ≡ same_layout a b }
 {
-    let x = a.minor_to_major;
-    let y = b.minor_to_major;
-    if !same_list(&x[..rank], &y[..rank]) {
-        return false;
-    }
-    let lens = a.tile_len;
-    let flat = a.tile;
-    let tiles = a.tiles;
-    let lens2 = b.tile_len;
-    let flat2 = b.tile;
-    let tiles2 = b.tiles;
-    same_tiles(&lens[..tiles], &flat, &lens2[..tiles2], &flat2)
+    a.minor_to_major[..rank] == b.minor_to_major[..rank]
+        && same_tiles(
+            &a.tile_len[..a.tiles],
+            &a.tile,
+            &b.tile_len[..b.tiles],
+            &b.tile,
+        )
 }

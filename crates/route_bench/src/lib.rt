@@ -3,7 +3,6 @@
 #![tactic(auto)]
 
 use layout::Layout;
-use refusal::Verdict;
 use route::Station;
 use shape::Shape;
 
@@ -49,11 +48,9 @@ fn station_of(seed: u64) -> Made {
     let step = 1 + state / 4096 % 8 * 2;
     let mut layouts = [layout_of(0); 8];
     let mut k = state / 65536 % 16;
-    let mut a: usize = 0;
-    while a < 8 {
-        layouts[a] = layout_of(k);
+    for layout in layouts.iter_mut() {
+        *layout = layout_of(k);
         k = (k + step) % 16;
-        a += 1;
     }
     let station = Station {
         parent: 0,
@@ -65,16 +62,13 @@ fn station_of(seed: u64) -> Made {
 
 // The parent of station i: form 0 is a chain, 1 a star, any other a random tree.
 fn parent_of(form: u64, state: u64, i: usize) -> usize {
-    if i == 0 {
-        return 0;
+    if i == 0 || form == 1 {
+        0
+    } else if form == 0 {
+        i - 1
+    } else {
+        (state / 1048576) as usize % i
     }
-    if form == 0 {
-        return i - 1;
-    }
-    if form == 1 {
-        return 0;
-    }
-    (state / 1048576) as usize % i
 }
 
 // 64 stations.
@@ -83,14 +77,11 @@ fn stations_of(form: u64, seed: u64) -> [Station; 64] {
     let station = first.station;
     let mut state = first.state;
     let mut stations = [station; 64];
-    let mut i: usize = 1;
-    while i < 64 {
+    for i in 1..64 {
         let made = station_of(state);
-        let mut station = made.station;
         state = made.state;
-        station.parent = parent_of(form, state, i);
-        stations[i] = station;
-        i += 1;
+        stations[i] = made.station;
+        stations[i].parent = parent_of(form, state, i);
     }
     stations
 }
@@ -98,18 +89,16 @@ fn stations_of(form: u64, seed: u64) -> [Station; 64] {
 // The least total through 64 stations of 8 layouts with a limit on moves, or 0 where it is refused.
 #[unsafe(no_mangle)]
 pub extern "C" fn tree_total(form: u64, seed: u64, moves: u64) -> u64 {
-    let answer = route::best_route_of(
+    match route::best_route_of(
         table(),
         stations_of(form, seed),
         64,
         64,
         1099511627776,
         moves as usize,
-    );
-    let verdict = answer.verdict;
-    match verdict {
-        Verdict::Done => answer.total,
-        Verdict::Refused(_) => 0,
+    ) {
+        Ok(route) => route.total,
+        Err(_) => 0,
     }
 }
 

@@ -4,55 +4,91 @@
 #![tactic(auto)]
 
 use layout::Layout;
-use refusal::Verdict;
+use refusal::Refusal;
 use route::{Route, Station};
 use shape::Shape;
 use std::io;
 
-// A station with a parent that lists the untiled layout of a table of rank 1, so many times.
-fn station(parent: usize, count: usize) -> Station {
-    let layout = Layout {
-        rank: 1,
-        minor_to_major: [0; 6],
-        tiles: 0,
-        tile_len: [0; 3],
-        tile: [0; 18],
-    };
-    Station {
-        parent,
-        count,
-        layouts: [layout; 8],
+// A route of a table of 5 elements through a number of stations, of which some are lent. Each has one parent, and lists the
+// untiled layout of a table of rank 1 so many times.
+#[derive(Clone, Copy)]
+struct Question {
+    lent: usize,
+    number: usize,
+    parent: usize,
+    count: usize,
+}
+
+impl Question {
+    fn station(self) -> Station {
+        let layout = Layout {
+            rank: 1,
+            minor_to_major: [0; 6],
+            tiles: 0,
+            tile_len: [0; 3],
+            tile: [0; 18],
+        };
+        Station {
+            parent: self.parent,
+            count: self.count,
+            layouts: [layout; 8],
+        }
     }
-}
 
-// The route of a table of 5 elements through a number of stations with one parent and so many layouts, of which some
-// are lent.
-fn through(lent: usize, number: usize, parent: usize, count: usize) -> Route {
-    let shape = Shape {
-        rank: 1,
-        sizes: [5; 6],
-    };
-    let stations = [station(parent, count); 64];
-    route::best_route_of(shape, stations, lent, number, 100, 0)
-}
+    fn answer(self) -> Result<Route, Refusal> {
+        let shape = Shape {
+            rank: 1,
+            sizes: [5; 6],
+        };
+        let stations = [self.station(); 64];
+        let lent = self.lent.min(stations.len());
+        route::best_route(shape, &stations[..lent], self.number, 100, 0)
+    }
 
-// The total, or the refusal's number.
-fn show(rt: &HostRuntime, answer: Route) -> io::Result<()> {
-    let verdict = answer.verdict;
-    match verdict {
-        Verdict::Done => println!(rt; "total {}", answer.total),
-        Verdict::Refused(r) => println!(rt; "refused {}", refusal::number(r)),
+    // Prints the total, or the refusal's number.
+    fn show(self, rt: &HostRuntime) -> io::Result<()> {
+        match self.answer() {
+            Ok(route) => println!(rt; "total {}", route.total),
+            Err(refusal) => println!(rt; "refused {}", refusal::number(refusal)),
+        }
     }
 }
 
 fn main(rt: HostRuntime) -> io::Result<()> {
-    show(&rt, through(3, 3, 0, 1))?;
-    show(&rt, through(2, 3, 0, 1))?;
-    show(&rt, through(0, 1, 0, 1))?;
-    show(&rt, through(64, 64, 0, 1))?;
-    show(&rt, through(2, 3, 0, 2))?;
-    show(&rt, through(0, 1, 0, 2))?;
-    show(&rt, through(2, 3, 1, 1))?;
-    show(&rt, through(1, 3, 1, 1))?;
-    show(&rt, through(1, 1, 1, 1))
+    let whole = Question {
+        lent: 3,
+        number: 3,
+        parent: 0,
+        count: 1,
+    };
+    let short = Question { lent: 2, ..whole };
+    let none = Question {
+        lent: 0,
+        number: 1,
+        ..whole
+    };
+    let longest = Question {
+        lent: 64,
+        number: 64,
+        ..whole
+    };
+    whole.show(&rt)?;
+    short.show(&rt)?;
+    none.show(&rt)?;
+    longest.show(&rt)?;
+    Question { count: 2, ..short }.show(&rt)?;
+    Question { count: 2, ..none }.show(&rt)?;
+    Question { parent: 1, ..short }.show(&rt)?;
+    Question {
+        lent: 1,
+        parent: 1,
+        ..short
+    }
+    .show(&rt)?;
+    Question {
+        lent: 1,
+        parent: 1,
+        ..none
+    }
+    .show(&rt)
 }

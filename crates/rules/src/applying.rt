@@ -35,12 +35,7 @@ pub struct Ends {
 fn larger_below(below: u64, g: u64, r: u64) -> u64
     ensures { result ≡ larger_below below g r }
 {
-    if g < below {
-        if r < g {
-            return g;
-        }
-    }
-    r
+    if g < below && r < g { g } else { r }
 }
 
 // The largest gcd of c with a coefficient's size, of the n terms at p, that is below `below`; 1 where there is none.
@@ -65,6 +60,7 @@ fn fitting(w: &[i64], p: usize, n: usize, c: i64, out: &mut [i64]) -> Found
 {
     let size = integer::magnitude(c);
     let mut g = size;
+    // A `while`: no counting loop, since the next g is found by a search.
     while 1 < g {
         let t = words::try_at(w, p, n, g as i64, out);
         let small = t.ok;
@@ -214,12 +210,12 @@ fn new_op(
     ensures { result ≡ new_op factor divisor terms end rest_terms rest_end }
 {
     Applied::Again(Again {
-        factor: factor,
-        divisor: divisor,
-        terms: terms,
-        end: end,
-        rest_terms: rest_terms,
-        rest_end: rest_end,
+        factor,
+        divisor,
+        terms,
+        end,
+        rest_terms,
+        rest_end,
     })
 }
 
@@ -308,14 +304,8 @@ pub fn apply_rule(op: usize, w: &[i64], p: usize, n: usize, c: i64, out: &mut [i
         return rule1(op, w, p, n, out);
     }
     match fitting(w, p, n, c, out) {
-        Found::Passed => {
-            return Applied::Passed;
-        }
-        Found::At(g, q) => {
-            return rule2(op, w, p, n, c, g, q, out);
-        }
-        Found::None => {
-            return rules34(op, w, p, n, c, out);
-        }
+        Found::Passed => Applied::Passed,
+        Found::At(g, q) => rule2(op, w, p, n, c, g, q, out),
+        Found::None => rules34(op, w, p, n, c, out),
     }
 }

@@ -67,8 +67,7 @@ module _ (same : ℕ → ℕ → Bool) where
         (λ (q : later_in same n ≤ k). first_found (omega arith))
         (λ (q : k < later_in same n).
         let z : false ≡ true = sym (none-earlier k (first-before (is_repeat same) n k q) i g) ∙ e in
-        let y : ◌≡◌ {A = ℕ} 0 1 = cc in
-        absurd (omega arith))
+        cc)
         (le-or-lt (later_in same n) k)
 
     -- and free of repeats says that no two places hold the same

@@ -1,4 +1,5 @@
 -- What a shape that keeps its limits gives. Assumes nothing.
+use Rattle.std.specs.Prelude.{Ok}
 use mathlib.Core.Path.{◌≡◌, ◌∙◌}
 use mathlib.Core.Bool.{true, ◌&&◌}
 use Prim.Native.Nat.{ℕ, ◌≤◌, min, ◌+◌}
@@ -11,7 +12,6 @@ use lib.Seq.{length-take-le}
 use borrow.Author.Tests.{leb-true}
 use Rattle.refusal.specs.Judge.{judge}
 use Rattle.refusal.specs.declared.Refusal.TheVariants.{Outside, WrongLength}
-use Rattle.refusal.specs.declared.Verdict.TheVariants.{Done}
 use Rattle.refusal.proofs.Judged.{kept, rest}
 use Rattle.shape.specs.Answers.{inside_rules}
 use Rattle.radix.specs.Radix.{In, is_inside, max_size, max_count, Sizes, is_within}
@@ -48,6 +48,6 @@ pub whole : {s : Shape} (n : ℕ) → Limits s → n ≡ min (count_of s) (max_c
 whole {s} n l e = e ∙ min-eq_left (omega (arith, l.count))
 
 -- a point that is judged done lies inside
-pub point-in : (s : Shape) (point : List ℕ) → judge (inside_rules s point) ≡ Done → In point (sizes_of s)
+pub point-in : (s : Shape) (point : List ℕ) → judge (inside_rules s point) ≡ Ok tt → In point (sizes_of s)
 point-in s point e =
-    inside-in point (sizes_of s) (kept (is_inside point (sizes_of s)) Outside Done (rest (eqb (length point) s.rank) WrongLength _ e))
+    inside-in point (sizes_of s) (kept (is_inside point (sizes_of s)) Outside (Ok tt) (rest (eqb (length point) s.rank) WrongLength _ e))

@@ -6,16 +6,16 @@ use Prim.Native.Nat.{ℕ, ◌+◌, ◌<◌, ◌≤◌}
 use native.Mathlib.Omega.{arith}
 use mathlib.Core.List.{List}
 use lib.Dec.{ltb, eqb}
-use lib.ListN.{length, get_or, set, replicate, length-set, length-replicate, get_or-replicate}
+use lib.ListN.{length, get_or, set, length-set}
 use lib.Seq.{get_or-set_same, get_or-set_other}
-use borrow.Author.Count.{below_none, below_more}
+use borrow.Author.Count.{below_more}
 use borrow.Author.Tests.{eq-eqb, ne_eqb, eqb-true, eqb-false, lt-ltb, le-ltb, le-leb, lt-leb}
 use Rattle.radix.proofs.Tests.{every-all, every-not, and-true, and-false, first-is}
 use Rattle.radix.proofs.Lists.{le-or-lt}
 use Rattle.shape.specs.Repeats.{later_in}
 use Rattle.shape.specs.Dimensions.{place, in_range, same_dimension, repeats, later_place, is_permutation}
 use Rattle.shape.proofs.FirstRepeats.{none-later}
-use Rattle.shape.proofs.Repeats.{place_at, place-below}
+use Rattle.shape.proofs.Repeats.{place_at, repeats-place}
 use Rattle.shape.proofs.Permutations.{place-le}
 
 -- before place i every dimension is below the length and stands once, and what has its first place there is marked
@@ -32,19 +32,6 @@ past a i n =
     (λ (l : i + 1 ≤ a). le-ltb a i (omega arith) ∙ sym (le-ltb a (i + 1) l))
     (λ (l : a < i + 1). lt-ltb a i (omega (arith, n)) ∙ sym (lt-ltb a (i + 1) l))
     (le-or-lt (i + 1) a)
-
--- a place repeats an earlier one just when its dimension's place lies before it
-repeats-place : (xs : List ℕ) (k : ℕ) → k < length xs → repeats xs k ≡ ltb (place (get_or xs k 0) xs) k
-repeats-place xs k l = ap (λ (p : ℕ). ltb p k) (place-below xs k l)
-
-pub marked-none : (n : ℕ) (xs : List ℕ) → length xs ≤ n → Marked xs 0 (replicate n 0)
-marked-none n xs h =
-    record {
-      room = omega (arith, length-replicate {A = ℕ} n 0);
-      below = below_none _;
-      once = below_none _;
-      marks = λ d l. rw (get_or-replicate {A = ℕ} n d 0 0 (omega arith)) (sym (le-ltb (place d xs) 0 (omega arith)));
-    }
 
 pub marked_all : (xs met : List ℕ) (i : ℕ) → length xs ≤ i → Marked xs i met → true ≡ is_permutation xs
 unfolding is_permutation in_range

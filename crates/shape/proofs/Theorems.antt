@@ -1,10 +1,10 @@
 -- The theorems on shapes and lists of dimensions. Assumes nothing.
-use mathlib.Core.Path.{◌≡◌, refl, sym}
+use Rattle.std.specs.Prelude.{Option, Some, None}
+use mathlib.Core.Path.{◌≡◌, refl, sym, ap}
 use mathlib.Core.Bool.{Bool, true, false, cond}
 use mathlib.Core.Logic.{◌↔◌}
 use mathlib.Core.List.{List, []}
 use Prim.Native.Nat.{ℕ, ◌<◌}
-use native.Mathlib.Omega.{arith}
 use lib.Dec.{ltb}
 use lib.ListN.{length, get_or}
 use borrow.Author.Tests.{lt-leb, lt-ltb, leb-false, eq-eqb, eqb-true}
@@ -17,7 +17,6 @@ use Rattle.shape.specs.Shape.{sizes_of, count_of}
 use Rattle.shape.specs.Repeats.{FirstRepeat}
 use Rattle.shape.specs.Dimensions.{in_range, same_dimension, repeats, later_place, earlier_place, free, first_pair, first_repeat, is_permutation, Permutation}
 use Rattle.shape.specs.declared.Shape.{Shape}
-use Rattle.shape.specs.declared.dimensions.Pair.TheVariants.{At, Nowhere}
 use Rattle.shape.proofs.FirstRepeats.{no-repeat, first_found, some-repeat}
 use Rattle.shape.proofs.Repeats.{pair-found}
 use Rattle.shape.proofs.Permutations.{apart-free, free-apart, permutation-of, permutation-is}
@@ -43,25 +42,26 @@ pub permutation-onto : (xs : List ℕ) → (is_permutation xs ≡ true) ↔ Perm
 permutation-onto xs = (permutation-of xs, permutation-is xs)
 
 -- The first two places that hold the same are the first repeat, the later one searched from the front.
-pub pair-exactly : (xs : List ℕ) (e l : ℕ) → (first_pair xs ≡ At e l) ↔ FirstRepeat (same_dimension xs) (length xs) e l
+pub pair-exactly : (xs : List ℕ) (e l : ℕ) → (first_pair xs ≡ Some (e, l)) ↔ FirstRepeat (same_dimension xs) (length xs) e l
 unfolding first_pair
 pair-exactly xs e l = (λ q. go (free xs) refl q, λ f. sym (pair-found xs f))
   where
-    go : (b : Bool) → free xs ≡ b → cond b Nowhere (At (earlier_place xs) (later_place xs)) ≡ At e l → FirstRepeat (same_dimension xs) (length xs) e l
-    go true f q = let z : ◌≡◌ {A = ℕ} 0 1 = cc in absurd (omega arith)
+    go : (b : Bool) → free xs ≡ b → cond {A = Option (ℕ × ℕ)} b None (Some (earlier_place xs, later_place xs)) ≡ Some (e, l) → FirstRepeat (same_dimension xs) (length xs) e l
+    go true f q = cc
     go false f q =
-        let a : earlier_place xs ≡ e = cc in
-        let b : later_place xs ≡ l = cc in
+        let s : ◌≡◌ {A = ℕ × ℕ} (earlier_place xs, later_place xs) (e, l) = cc in
+        let a : earlier_place xs ≡ e = ap (λ (p : ℕ × ℕ). p.0) s in
+        let b : later_place xs ≡ l = ap (λ (p : ℕ × ℕ). p.1) s in
         rw (← a, ← b) (first_found (same_dimension xs) (length xs) (leb-false (length xs) (later_place xs) f))
 
 -- There are none exactly where no two places hold the same.
-pub pair-nowhere : (xs : List ℕ) → (first_pair xs ≡ Nowhere) ↔ ((i j : ℕ) → i < j → j < length xs → get_or xs i 0 ≡ get_or xs j 0 → ⊥)
+pub pair-nowhere : (xs : List ℕ) → (first_pair xs ≡ None) ↔ ((i j : ℕ) → i < j → j < length xs → get_or xs i 0 ≡ get_or xs j 0 → ⊥)
 unfolding first_pair
 pair-nowhere xs = (λ q. free-apart xs (go (free xs) q), λ a. rw (apart-free xs a))
   where
-    go : (b : Bool) → cond b Nowhere (At (earlier_place xs) (later_place xs)) ≡ Nowhere → b ≡ true
+    go : (b : Bool) → cond {A = Option (ℕ × ℕ)} b None (Some (earlier_place xs, later_place xs)) ≡ None → b ≡ true
     go true q = refl
-    go false q = let z : ◌≡◌ {A = ℕ} 0 1 = cc in absurd (omega arith)
+    go false q = cc
 
 -- A list without repeats is answered done; a repeat is refused with the first later place whose dimension stands at an earlier place, and that place.
 pub repeat-absent : (xs : List ℕ) → ((i j : ℕ) → i < j → j < length xs → get_or xs i 0 ≡ get_or xs j 0 → ⊥) → first_repeat xs ≡ done []

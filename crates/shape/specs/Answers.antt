@@ -1,23 +1,19 @@
 -- What the calls on shapes answer: the rules in the order of their numbers, and the values. Assumes nothing.
-use Rattle.std.specs.Prelude.{ℕ, ◌+◌, ◌-◌, List, [], ◌∷◌, ◌++◌, ltb, eqb, length, replicate}
+use Rattle.std.specs.Prelude.{ℕ, ◌+◌, ◌-◌, List, [], ◌∷◌, ◌++◌, ltb, eqb, length, replicate, Result, Ok, Err}
 use Rattle.radix.specs.Radix.{row_major, digits, is_inside}
-use Rattle.refusal.specs.Number.{Answer, done, refusal, answered, verdict_answer}
+use Rattle.refusal.specs.Number.{Answer, done, refusal, answered}
 use Rattle.refusal.specs.Judge.{Rule, rule, judge}
 use Rattle.refusal.specs.declared.Refusal.{Refusal}
 use Rattle.refusal.specs.declared.Refusal.TheVariants.{ShapeLimits, Outside, WrongLength}
-use Rattle.refusal.specs.declared.Verdict.TheVariants.{Refused}
 use Rattle.shape.specs.Shape.{max_rank, sizes_of, count_of, good_shape}
 use Rattle.shape.specs.declared.Shape.{Shape}
-use Rattle.shape.specs.declared.Counted.{Counted}
-use Rattle.shape.specs.declared.Counted.TheVariants as counted
-use Rattle.shape.specs.declared.Numbered.{Numbered}
-use Rattle.shape.specs.declared.Numbered.TheVariants as numbered
-use Rattle.shape.specs.declared.Located.{Located}
+use Rattle.shape.specs.declared.Element.{Element}
+use Rattle.shape.specs.declared.Point.{Point}
 
 -- the element count
-abbrev pub counted_answer : Counted → Answer ℕ
-counted_answer (counted.Elements n) = done (n ∷ [])
-counted_answer (counted.Refused r) = refusal (0 ∷ []) r
+abbrev pub counted_answer : Result ℕ Refusal → Answer ℕ
+counted_answer (Ok n) = done (n ∷ [])
+counted_answer (Err r) = refusal (0 ∷ []) r
 
 abbrev pub count_rules : Shape → List Rule
 count_rules s = rule (good_shape s) ShapeLimits ∷ []
@@ -26,9 +22,9 @@ unfoldable pub element_count : Shape → Answer ℕ
 element_count s = answered (0 ∷ []) (judge (count_rules s)) (count_of s ∷ [])
 
 -- the element number of a point
-abbrev pub numbered_answer : Numbered → Answer ℕ
-numbered_answer (numbered.At e) = done (e.0 ∷ [])
-numbered_answer (numbered.Refused r) = refusal (0 ∷ []) r
+abbrev pub numbered_answer : Result Element Refusal → Answer ℕ
+numbered_answer (Ok e) = done (e.0 ∷ [])
+numbered_answer (Err r) = refusal (0 ∷ []) r
 
 abbrev pub inside_rules : Shape → List ℕ → List Rule
 inside_rules s point = rule (eqb (length point) s.rank) WrongLength ∷ rule (is_inside point (sizes_of s)) Outside ∷ []
@@ -40,16 +36,9 @@ unfoldable pub element_number : Shape → List ℕ → Answer ℕ
 element_number s point = answered (0 ∷ []) (judge (number_rules s point)) (row_major (sizes_of s) point ∷ [])
 
 -- the point of an element: the rank and six coordinates, 0 past the rank
-abbrev pub located_answer : Located → Answer ℕ
-located_answer r =
-    record {
-      number = (verdict_answer r.verdict).number;
-      values = r.point.rank ∷ r.point.coordinates;
-      places = (verdict_answer r.verdict).places;
-    }
-
-abbrev pub unlocated_of : Refusal → Located
-unlocated_of r = record { verdict = Refused r; point = record { rank = 0; coordinates = replicate max_rank 0 } }
+abbrev pub located_answer : Result Point Refusal → Answer ℕ
+located_answer (Ok p) = done (p.rank ∷ p.coordinates)
+located_answer (Err r) = refusal (replicate (1 + max_rank) 0) r
 
 abbrev pub point_rules : Shape → ℕ → List Rule
 point_rules s n = rule (good_shape s) ShapeLimits ∷ rule (ltb n (count_of s)) Outside ∷ []

@@ -1,11 +1,9 @@
 -- Lists of dimensions: in range, free of repeats, a permutation. Assumes nothing.
-use Rattle.std.specs.Prelude.{ℕ, ◌<◌, Bool, ◌&&◌, cond, List, [], ltb, eqb, length, get_or}
+use Rattle.std.specs.Prelude.{ℕ, ◌<◌, Bool, ◌&&◌, cond, List, [], ltb, eqb, length, get_or, Option, Some, None}
 use Rattle.radix.specs.Radix.{every, first}
 use Rattle.refusal.specs.Number.{Answer, done, refusal}
 use Rattle.refusal.specs.declared.Refusal.TheVariants.{Repeat}
 use Rattle.shape.specs.Repeats.{is_repeat, later_in, earlier_in, is_free}
-use Rattle.shape.specs.declared.dimensions.Pair.{Pair}
-use Rattle.shape.specs.declared.dimensions.Pair.TheVariants.{At, Nowhere}
 
 -- the first place of the dimension j in the list, or the list's length
 unfoldable pub place : ℕ → List ℕ → ℕ
@@ -35,8 +33,8 @@ abbrev pub free : List ℕ → Bool
 free xs = is_free (same_dimension xs) (length xs)
 
 -- the first two places that hold the same, the later one searched from the front
-unfoldable pub first_pair : List ℕ → Pair
-first_pair xs = cond (free xs) Nowhere (At (earlier_place xs) (later_place xs))
+unfoldable pub first_pair : List ℕ → Option (ℕ × ℕ)
+first_pair xs = cond (free xs) None (Some (earlier_place xs, later_place xs))
 
 -- the first repeat refuses, with the earlier and the later place
 unfoldable pub first_repeat : List ℕ → Answer ℕ

@@ -4,73 +4,47 @@ ghost use Rattle.refusal.specs.Number.{verdict_answer};
 ghost use Rattle.shape.specs.Shape.{max_rank};
 ghost use Rattle.shape.specs.Dimensions.{place, in_range, first_pair, first_repeat, is_permutation};
 
-use refusal::{Refusal, Verdict};
-
-// Two places of a list that hold the same, the earlier one first.
-#[derive(Clone, Copy)]
-pub enum Pair {
-    At(usize, usize),
-    Nowhere,
-}
+use refusal::Refusal;
 
 // The first place of the dimension in the list, or the list's length.
 pub fn place_of(list: &[u64], dimension: u64) -> usize
     ensures { result ≡ place dimension list.now }
 {
-    let mut i: usize = 0;
-    while i < list.len() {
-        if list[i] == dimension {
-            return i;
-        }
-        i += 1;
-    }
-    i
+    list.iter()
+        .position(|d| *d == dimension)
+        .unwrap_or(list.len())
 }
 
 // Every dimension of the list is below n.
 pub fn in_range(list: &[u64], n: u64) -> bool
     ensures { result ≡ in_range n list.now }
 {
-    let mut i: usize = 0;
-    while i < list.len() {
-        if n <= list[i] {
-            return false;
-        }
-        i += 1;
-    }
-    true
+    list.iter().all(|d| *d < n)
 }
 
 // The first two places that hold the same: the later one is searched from the front.
-pub fn first_pair(list: &[u64]) -> Pair
+pub fn first_pair(list: &[u64]) -> Option<(usize, usize)>
     ensures { result ≡ first_pair list.now }
 {
-    let mut earlier: usize = 0;
-    let mut later: usize = 0;
-    'search: while later < list.len() {
-        earlier = 0;
-        while earlier < later {
+    let mut pair = None;
+    'search: for later in 0..list.len() {
+        for earlier in 0..later {
             if list[earlier] == list[later] {
+                pair = Some((earlier, later));
                 break 'search;
             }
-            earlier += 1;
         }
-        later += 1;
     }
-    if later < list.len() {
-        Pair::At(earlier, later)
-    } else {
-        Pair::Nowhere
-    }
+    pair
 }
 
 // Refused at the first repeat, with both places.
-pub fn first_repeat(list: &[u64]) -> Verdict
+pub fn first_repeat(list: &[u64]) -> Result<(), Refusal>
     ensures { verdict_answer result ≡ first_repeat list.now }
 {
     match first_pair(list) {
-        Pair::Nowhere => Verdict::Done,
-        Pair::At(earlier, later) => Verdict::Refused(Refusal::Repeat(earlier, later)),
+        None => Ok(()),
+        Some((earlier, later)) => Err(Refusal::Repeat(earlier, later)),
     }
 }
 
@@ -81,18 +55,11 @@ fn each_once(list: &[u64]) -> bool
 {
     let n = list.len() as u64;
     let mut met = [0u64; 6];
-    let mut i: usize = 0;
-    while i < list.len() {
-        let d = list[i];
-        if n <= d {
+    for d in list {
+        if n <= *d || met[*d as usize] == 1 {
             return false;
         }
-        let k = d as usize;
-        if met[k] == 1 {
-            return false;
-        }
-        met[k] = 1;
-        i += 1;
+        met[*d as usize] = 1;
     }
     true
 }
@@ -104,12 +71,5 @@ pub fn is_permutation(list: &[u64]) -> bool
     if list.len() <= super::MAX_RANK {
         return each_once(list);
     }
-    if in_range(list, list.len() as u64) {
-        match first_repeat(list) {
-            Verdict::Done => true,
-            Verdict::Refused(_) => false,
-        }
-    } else {
-        false
-    }
+    in_range(list, list.len() as u64) && first_pair(list).is_none()
 }

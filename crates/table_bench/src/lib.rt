@@ -4,7 +4,7 @@
 
 use bench_rows::{ROW, layout_of, shape_of};
 use layout::Layout;
-use offset_table::{Finding, Judged, Named};
+use offset_table::Finding;
 
 // The number for a refused call, above any place and any finding.
 const REFUSED: u64 = 1000;
@@ -12,15 +12,8 @@ const REFUSED: u64 = 1000;
 // The layouts of the rows, as many as there are whole rows, up to 64.
 fn layouts_of(rows: &[u64]) -> [Layout; 64] {
     let mut layouts = [layout_of(rows); 64];
-    let mut from: usize = 0;
-    let mut i: usize = 0;
-    while i < 64 {
-        if rows.len() - from < ROW {
-            return layouts;
-        }
-        layouts[i] = layout_of(&rows[from..]);
-        from += ROW;
-        i += 1;
+    for (layout, row) in layouts.iter_mut().zip(rows.chunks_exact(ROW)) {
+        *layout = layout_of(row);
     }
     layouts
 }
@@ -29,12 +22,10 @@ fn layouts_of(rows: &[u64]) -> [Layout; 64] {
 #[unsafe(no_mangle)]
 pub extern "C" fn judge_any(row: &[u64], table: &[u64], padded: u64) -> u64 {
     match offset_table::judge_table(shape_of(row), table, padded) {
-        Judged::Found(finding) => match finding {
-            Finding::Sound => 0,
-            Finding::Outside(_) => 1,
-            Finding::Shared(_, _) => 2,
-        },
-        Judged::Refused(_) => REFUSED,
+        Ok(Finding::Sound) => 0,
+        Ok(Finding::Outside(_)) => 1,
+        Ok(Finding::Shared(_, _)) => 2,
+        Err(_) => REFUSED,
     }
 }
 
@@ -44,7 +35,7 @@ pub extern "C" fn which_any(rows: &[u64], table: &[u64], padded: u64, count: usi
     let shape = shape_of(rows);
     let layouts = layouts_of(rows);
     match offset_table::layout_of_table(shape, table, padded, layouts, count) {
-        Named::At(place) => place as u64,
-        Named::Refused(_) => REFUSED,
+        Ok(place) => place as u64,
+        Err(_) => REFUSED,
     }
 }

@@ -1,8 +1,8 @@
 -- A tile in place: with j of its entries done, f of place and entry stands where the place stood and g of them after all places. Assumes nothing.
 use mathlib.Core.Path.{◌≡◌, sym, ap, ◌∙◌, subst}
 use mathlib.Core.Logic.{⊎_elim, ◌⊎◌, inl, inr}
-use Prim.Native.Nat.{ℕ, ◌+◌, ◌-◌, ◌/◌, ◌%◌, ◌<◌, ◌≤◌}
-use native.Mathlib.Nat.{not-suc-le-zero, eq-or-lt_of_le}
+use Prim.Native.Nat.{ℕ, ◌+◌, ◌-◌, ◌*◌, ◌/◌, ◌%◌, ◌<◌, ◌≤◌, min}
+use native.Mathlib.Nat.{eq-or-lt_of_le, eq-zero-or-pos, one-mul, div-add-mod', mod-lt, mul-add-div_right, div-eq_of_lt}
 use native.Mathlib.Omega.{arith}
 use mathlib.Core.List.{List}
 use lib.ListN.{length, get_or, take, set, length-set}
@@ -24,9 +24,6 @@ module _ (f g : ℕ → ℕ → ℕ) (ts es : List ℕ) (n : ℕ) (is : length e
   abbrev m : ℕ
   m = length ts
 
-  pub place-start : (at : List ℕ) → ((i : ℕ) → i < n → get_or at i 0 ≡ get_or es i 0) → Partly f g n ts es at 0
-  place-start at e = record { within = omega arith; others = λ i l _. e i l; here = λ i l. absurd (not-suc-le-zero l); after = λ i l. absurd (not-suc-le-zero l) }
-
   -- one entry more
   module _ (at : List ℕ) (j : ℕ) (long : n + m ≤ length at) (v : Partly f g n ts es at j) (l : j < m) where
     abbrev q : ℕ
@@ -42,10 +39,10 @@ module _ (f g : ℕ → ℕ → ℕ) (ts es : List ℕ) (n : ℕ) (is : length e
     kept : (i : ℕ) → (i ≡ n - m + j → ⊥) → (i ≡ n + j → ⊥) → get_or next i 0 ≡ get_or at i 0
     kept i a b = get_or-set_other (set at (n - m + j) q) (n + j) i r 0 b ∙ get_or-set_other at (n - m + j) i q 0 a
 
-    pub place_here : get_or at (n - m + j) 0 ≡ get_or es (n - m + j) 0
+    place_here : get_or at (n - m + j) 0 ≡ get_or es (n - m + j) 0
     place_here = v.others (n - m + j) (omega arith) (inr (omega arith))
 
-    pub place-next : Partly f g n ts es next (j + 1)
+    place-next : Partly f g n ts es next (j + 1)
     place-next =
         record {
           within = omega arith;
@@ -68,6 +65,11 @@ module _ (f g : ℕ → ℕ → ℕ) (ts es : List ℕ) (n : ℕ) (is : length e
         behind i e =
             subst (λ (x : ℕ). get_or next (n + x) 0 ≡ g (get_or es (n - m + x) 0) (get_or ts x 0)) (sym e)
             (get_or-set_same (set at (n - m + j) q) (n + j) r 0 (omega (arith, length-set at (n - m + j) q)))
+
+    -- what the places hold, by what they held
+    pub place-step : (x y : ℕ) → x ≡ f (get_or at (n - m + j) 0) (get_or ts j 0) → y ≡ g (get_or at (n - m + j) 0) (get_or ts j 0) → Partly f g n ts es (set (set at (n - m + j) x) (n + j) y) (j + 1)
+    place-step x y a b =
+        rw (a ∙ ap (λ (z : ℕ). f z (get_or ts j 0)) place_here, b ∙ ap (λ (z : ℕ). g z (get_or ts j 0)) place_here) place-next
 
   -- all entries done, and the list that has these entries
   pub place_end : (out : List ℕ) → length out ≡ n + m → ((i : ℕ) → i < n - m → get_or out i 0 ≡ get_or es i 0) → ((i : ℕ) → n - m ≤ i → i < n → get_or out i 0 ≡ f (get_or es i 0) (get_or ts (i - (n - m)) 0))
@@ -94,6 +96,21 @@ module _ (f g : ℕ → ℕ → ℕ) (ts es : List ℕ) (n : ℕ) (is : length e
 pub index-end : (ts es : List ℕ) (n : ℕ) → length es ≡ n → length ts ≤ n → (at : List ℕ) (j : ℕ) → n + length ts ≤ length at → Partly ◌/◌ ◌%◌ n ts es at j → length ts ≤ j → take (n + length ts) at ≡ tile_index ts es
 index-end ts es n is h =
     place_end ◌/◌ ◌%◌ ts es n is h (tile_index ts es) (tile-length-index ts es (omega (arith, is)) ∙ ap (λ (x : ℕ). x + length ts) is) (index-first ts es n is h) (index-second ts es n is h) (index-third ts es n is h)
+
+-- the quotient rounded up, by its remainder
+pub ceil-is : (d t : ℕ) → 0 < t → d / t + min 1 (d % t) ≡ ceil d t
+ceil-is d t p =
+    let s : d + (t - 1) ≡ d / t * t + (d % t + (t - 1)) = omega (arith, div-add-mod' d t) in
+    sym (ap (λ (x : ℕ). x / t) s ∙ mul-add-div_right p (d / t) (d % t + (t - 1)) ∙ ap (λ (x : ℕ). d / t + x) (⊎_elim none some (eq-zero-or-pos (d % t))))
+  where
+    none : d % t ≡ 0 → (d % t + (t - 1)) / t ≡ min 1 (d % t)
+    none z = div-eq_of_lt (omega arith) ∙ omega arith
+
+    some : 0 < d % t → (d % t + (t - 1)) / t ≡ min 1 (d % t)
+    some h =
+        let e : d % t + (t - 1) ≡ 1 * t + (d % t - 1) = omega (arith, one-mul t) in
+        let f : (d % t - 1) / t ≡ 0 = div-eq_of_lt (omega (arith, mod-lt d p)) in
+        ap (λ (x : ℕ). x / t) e ∙ mul-add-div_right p 1 (d % t - 1) ∙ omega arith
 
 -- a shape: ceilings, and the entries after them
 abbrev pub entry : ℕ → ℕ → ℕ

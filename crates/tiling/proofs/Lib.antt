@@ -2,6 +2,7 @@ pub mod Tiling
 pub mod Entries
 pub mod OwnCells
 pub mod Sums
+pub mod Fills
 pub mod InPlace
 pub mod Reaches
 pub mod Rows
@@ -14,3 +15,4 @@ pub mod UndoInPlace
 pub mod Along
 pub mod PaddingRuns
 pub mod RunEnds
+pub mod Dims

@@ -1,20 +1,19 @@
--- A reach under one tile, case by case, and what a loop over the tiles keeps. Assumes nothing.
-use mathlib.Core.Path.{◌≡◌, refl, sym, ap, ◌∙◌}
+-- A reach under one tile, and what a loop over the tiles keeps. Assumes nothing.
+use mathlib.Core.Path.{◌≡◌, refl, sym, ap, ◌∙◌, subst}
 use mathlib.Core.Bool.{Bool, true, false, cond}
-use Prim.Native.Nat.{ℕ, ◌+◌, ◌-◌, ◌*◌, ◌/◌, ◌%◌, ◌^◌, ◌<◌, ◌≤◌, min}
+use Prim.Native.Nat.{ℕ, ◌+◌, ◌-◌, ◌*◌, ◌%◌, ◌^◌, ◌<◌, ◌≤◌}
 use native.Mathlib.Nat.{mul-le-mul, mul_comm, pow-succ', pow-le-pow_right}
 use native.Mathlib.Numerals.{add-one}
 use native.Mathlib.Omega.{arith}
 use mathlib.Core.List.{List}
 use lib.Dec.{ltb, eqb}
-use lib.ListN.{length, get_or, take, drop, drop_of_length-le}
-use lib.Seq.{length-take-le}
-use borrow.Author.Tests.{lt-ltb, le-ltb, eq-eqb, ne_eqb, ltb-false}
+use lib.ListN.{length, get_or, take, drop}
+use borrow.Author.Tests.{ltb-false}
 use Rattle.radix.specs.Radix.{Bounded}
 use Rattle.shape.specs.Shape.{max_rank}
-use Rattle.tiling.proofs.Levels.{tiles-at, levels-at}
+use Rattle.tiling.proofs.Levels.{tiles-at, levels-at, tile-at}
 use Rattle.tiling.specs.Ready.{Levels}
-use Rattle.tiling.specs.Row.{quotient_reach, remainder_reach, divided_reach, tiled_reach, reached}
+use Rattle.tiling.specs.Row.{quotient_reach, remainder_reach, tiled_reach, reached}
 use Rattle.tiling.specs.Tile.{max_entries, max_entry, tiles_from}
 use Rattle.tiling.specs.declared.row.Reach.{Reach}
 
@@ -24,27 +23,6 @@ module _ (ts : List ℕ) (n : ℕ) (f : Reach) where
 
   abbrev t : ℕ
   t = get_or ts (f.place - (n - m)) 0
-
-  pub reach-unnamed : f.place < n - m → f ≡ tiled_reach ts n f
-  reach-unnamed h = sym (ap (λ (b : Bool). cond b f (divided_reach t m f)) (lt-ltb f.place (n - m) h))
-
-  reach-named : n - m ≤ f.place → divided_reach t m f ≡ tiled_reach ts n f
-  reach-named h = sym (ap (λ (b : Bool). cond b f (divided_reach t m f)) (le-ltb f.place (n - m) h))
-
-  pub reach-quotient : n - m ≤ f.place → (q r : ℕ) → q ≡ f.coordinate / t → r ≡ f.coordinate % t → r ≡ 0
-      → record { place = f.place; coordinate = q; scale = f.scale * t; most = f.most } ≡ tiled_reach ts n f
-  reach-quotient h q r e g z =
-      ap (λ (x : ℕ). record { place = f.place; coordinate = x; scale = f.scale * t; most = f.most }) e
-      ∙ sym (ap (λ (b : Bool). cond b (quotient_reach t f) (remainder_reach t m f)) (eq-eqb (f.coordinate % t) 0 (sym g ∙ z)))
-      ∙ reach-named h
-
-  pub reach-remainder : n - m ≤ f.place → (r o : ℕ) → r ≡ f.coordinate % t → (r ≡ 0 → ⊥) → o ≡ min f.most (f.scale * (t - r))
-      → record { place = f.place + m; coordinate = r; scale = f.scale; most = o } ≡ tiled_reach ts n f
-  reach-remainder h r o e z g =
-      ap (λ (x : ℕ). record { place = f.place + m; coordinate = r; scale = f.scale; most = x }) g
-      ∙ ap (λ (x : ℕ). record { place = f.place + m; coordinate = x; scale = f.scale; most = min f.most (f.scale * (t - x)) }) e
-      ∙ sym (ap (λ (b : Bool). cond b (quotient_reach t f) (remainder_reach t m f)) (ne_eqb (f.coordinate % t) 0 (λ q. z (e ∙ q))))
-      ∙ reach-named h
 
   -- the place stays one of the tiled places, and the scale grows by an entry at most
   abbrev of : Bool → Bool → Reach
@@ -79,25 +57,27 @@ pub record AtReach (lens flat : List ℕ) (goal : Reach) (f : Reach) (n l : ℕ)
   pub same : reached (tiles_from (drop l lens) (drop (max_entries * l) flat)) n f ≡ goal
 
 module _ (lens flat : List ℕ) (goal : Reach) where
-  pub reach-next : (f : Reach) (n l : ℕ) → AtReach lens flat goal f n l → l < length lens
-      → AtReach lens flat goal (tiled_reach (take (get_or lens l 0) (drop (max_entries * l) flat)) n f) (n + get_or lens l 0) (l + 1)
+  pub reach-next : (ts : List ℕ) (f : Reach) (n l : ℕ) → AtReach lens flat goal f n l → l < length lens → ts ≡ take (get_or lens l 0) (drop (max_entries * l) flat)
+      → AtReach lens flat goal (tiled_reach ts n f) (n + get_or lens l 0) (l + 1)
   unfolding Bounded
-  reach-next f n l v h =
+  reach-next ts f n l v h q =
       let w = levels-at lens flat n l h v.levels in
-      let ts = take (get_or lens l 0) (drop (max_entries * l) flat) in
-      let e : length ts ≡ get_or lens l 0 = length-take-le (get_or lens l 0) (drop (max_entries * l) flat) (omega (arith, w.0, w.2)) in
-      let m : length ts ≤ n = omega (arith, e, w.1) in
+      let t = tile-at lens flat n l h v.levels in
+      let e : length ts ≡ get_or lens l 0 = ap length q ∙ t.long in
+      let m : length ts ≤ n = omega (arith, e, t.named) in
+      let b : Bounded max_entry ts = subst (Bounded max_entry) (sym q) t.bounded in
       record {
         within = omega arith;
-        few = omega (arith, v.few, w.0);
+        few = omega (arith, v.few, t.few);
         place = omega (arith, e, reach-place ts n f m v.place);
-        scale = reach-scale ts n f l m v.place (λ k g. (w.3 k g).1) v.scale;
+        scale = reach-scale ts n f l m v.place (λ k g. (b k g).1) v.scale;
         levels = w.4;
-        same = ap (λ (k : ℕ). reached (tiles_from (drop (l + 1) lens) (drop (max_entries * (l + 1)) flat)) (n + k) (tiled_reach ts n f)) (sym e) ∙ ap (λ (r : List (List ℕ)). reached r n f) (sym (tiles-at lens flat l h)) ∙ v.same;
+        same =
+            ap (λ (k : ℕ). reached (tiles_from (drop (l + 1) lens) (drop (max_entries * (l + 1)) flat)) (n + k) (tiled_reach ts n f)) (sym e)
+            ∙ ap (λ (x : List ℕ). reached (tiles_from (drop (l + 1) lens) (drop (max_entries * (l + 1)) flat)) (n + length x) (tiled_reach x n f)) q
+            ∙ ap (λ (r : List (List ℕ)). reached r n f) (sym (tiles-at lens flat l h))
+            ∙ v.same;
       }
-
-  pub reach-end : (f : Reach) (n l : ℕ) → AtReach lens flat goal f n l → length lens ≤ l → f ≡ goal
-  reach-end f n l v h = ap (λ (r : List ℕ). reached (tiles_from r (drop (max_entries * l) flat)) n f) (sym (drop_of_length-le lens h)) ∙ v.same
 
 -- before the last tile of three the scale is small
 pub scale_small : (s l : ℕ) → l ≤ 2 → s ≤ 1024 ^ l → s ≤ 2 ^ 20

@@ -4,3 +4,5 @@ pub mod Row
 pub mod Ready
 pub mod Found
 pub mod Runs
+pub mod Single
+pub mod Tiled

@@ -6,9 +6,9 @@ mod lists;
 mod physical;
 mod row;
 mod runs;
+mod tiled;
 
-pub use cell::{Found, cell_in};
 pub use lists::{cell_found, element_offset, padded_cells};
-pub use physical::{Physical, dims_into, offset_by, offset_in, physical_dims, reverse_into};
+pub use physical::{Physical, dims_into, physical_dims, reverse_into};
 pub use row::{Reach, row_reach};
-pub use runs::padding_run;
+pub use tiled::Tiled;

@@ -6,7 +6,10 @@ ghost use Rattle.shape.specs.Shape.{max_rank};
 ghost use Rattle.tiling.specs.Row.{tiled_reach, row_reach};
 ghost use Rattle.tiling.specs.Ready.{Levels};
 ghost use Rattle.tiling.specs.Tile.{max_tiles, max_entry, max_physical, tiles_from};
+ghost use Rattle.tiling.specs.Tiled.{tiles_in};
 
+use super::physical;
+use super::tiled::Tiled;
 use inner::Divided;
 use reciprocal::inner;
 
@@ -49,19 +52,17 @@ fn tiled_reach(f: Reach, n: usize, ts: &[u64], m: &[u64]) -> Reach
     let d = split(f.coordinate, t, m);
     if d.remainder == 0 {
         return Reach {
-            place: f.place,
             coordinate: d.quotient,
             scale: f.scale * t,
-            most: f.most,
+            ..f
         };
     }
     let left = f.scale * (t - d.remainder);
-    let most = if left < f.most { left } else { f.most };
     Reach {
         place: f.place + ts.len(),
         coordinate: d.remainder,
-        scale: f.scale,
-        most,
+        most: f.most.min(left),
+        ..f
     }
 }
 
@@ -87,14 +88,27 @@ pub fn row_reach(
         most,
     };
     let mut n = rank;
-    let mut l: usize = 0;
-    while l < lens.len() {
-        let k = lens[l];
-        let a = 6 * l;
-        let e = a + k;
-        f = tiled_reach(f, n, &flat[a..e], m);
-        n += k;
-        l += 1;
+    for (l, k) in lens.iter().enumerate() {
+        f = tiled_reach(f, n, physical::entries(flat, l, *k), m);
+        n += *k;
     }
     f
+}
+
+impl<'a> Tiled<'a> {
+    // The reach of a row from a coordinate on, of most coordinates at most, at a place of the order.
+    pub fn row_reach(&self, place: usize, coordinate: u64, most: u64) -> Reach
+        requires { place < length self.now.order.now }
+        ensures { result ≡ row_reach (tiles_in self.now) (length self.now.order.now) place coordinate most }
+    {
+        row_reach(
+            self.order.len(),
+            self.lens,
+            self.entries,
+            place,
+            coordinate,
+            most,
+            self.multipliers,
+        )
+    }
 }

@@ -2,11 +2,11 @@
 ghost use Rattle.std.specs.Prelude.{◌≡◌, ◌<◌, ◌≤◌};
 ghost use Rattle.radix.specs.Radix.{max_count, prod, Sizes};
 ghost use Rattle.tiling.specs.Cell.{cell, padding};
-ghost use Rattle.tiling.specs.Ready.{Ready};
 ghost use Rattle.tiling.specs.Runs.{rest_of, PaddingRun};
-ghost use Rattle.tiling.specs.Tile.{physical, padded, tiles_from};
+ghost use Rattle.tiling.specs.Tile.{padded};
+ghost use Rattle.tiling.specs.Tiled.{tiles_in};
 
-use super::cell;
+use super::tiled::Tiled;
 
 // How many cells from k on have digits over dims that are all at least those of k.
 pub fn rest_of(dims: &[u64], k: u64) -> u64
@@ -16,40 +16,30 @@ pub fn rest_of(dims: &[u64], k: u64) -> u64
 {
     let mut span: u64 = 1;
     let mut q = k;
-    let mut i = dims.len();
-    while 0 < i {
-        i -= 1;
+    for i in (0..dims.len()).rev() {
         let d = dims[i];
         let e = q % d;
         if 0 < e {
             return (d - e) * span;
         }
-        q = q / d;
+        q /= d;
         span *= d;
     }
     span
 }
 
-// How many cells from the padding cell k on are known to be padding, at least 1; dims is the physical shape.
-pub fn padding_run(
-    sizes: &[u64],
-    p: &[u64],
-    lens: &[usize],
-    flat: &[u64],
-    dims: &[u64],
-    k: u64,
-) -> u64
-    requires ready { Ready sizes.now p.now lens.now flat.now }
-    requires dims_value { dims.now ≡ physical sizes.now p.now (tiles_from lens.now flat.now) }
-    requires k_bound { k < padded sizes.now p.now (tiles_from lens.now flat.now) }
-    requires k_value { cell sizes.now p.now (tiles_from lens.now flat.now) k ≡ padding }
-    ensures { PaddingRun sizes.now p.now (tiles_from lens.now flat.now) k result }
-{
-    let mut point = [0u64; 6];
-    cell::candidate_into(sizes, p, lens, flat, dims, k, &mut point);
-    let r = sizes.len();
-    if radix::inside(&point[..r], sizes) {
-        return 1;
+impl<'a> Tiled<'a> {
+    // How many cells from the padding cell k on are known to be padding, at least 1.
+    pub fn padding_run(&self, k: u64) -> u64
+        requires k_bound { k < padded self.now.sizes.now self.now.order.now (tiles_in self.now) }
+        requires k_value { cell self.now.sizes.now self.now.order.now (tiles_in self.now) k ≡ padding }
+        ensures { PaddingRun self.now.sizes.now self.now.order.now (tiles_in self.now) k result }
+    {
+        let mut point = [0u64; 6];
+        self.candidate_into(k, &mut point);
+        if radix::inside(&point[..self.sizes.len()], self.sizes) {
+            return 1;
+        }
+        rest_of(self.dims, k)
     }
-    rest_of(dims, k)
 }

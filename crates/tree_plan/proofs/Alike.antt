@@ -1,5 +1,6 @@
 -- Trees that are the same up to their counts have one answer: what stands past them, and the first station's parent, is
 -- not read. Assumes nothing.
+use Rattle.std.specs.Prelude.{Option, Some}
 use Prim.Native.Nat.{ℕ, zero, suc, ◌+◌, ◌*◌, ◌<◌}
 use mathlib.Core.Path.{◌≡◌, refl, sym, ap, ap₂, subst, ◌∙◌}
 use mathlib.Core.Bool.{Bool, true, false}
@@ -11,6 +12,7 @@ use native.Mathlib.Nat.{zero-mul}
 use borrow.Author.Tests.{ltb-true, ltb-false}
 use Rattle.plan.specs.Net.{price}
 use Rattle.plan.specs.Answer.{spread}
+use Rattle.plan.specs.declared.Plan.{Plan}
 use Rattle.tree_plan.specs.Tree.{Tree, Earlier, Formed, sum_to, at, link_moves, link_cost, plan_moves, plan_cost, Admitted, Best}
 use Rattle.tree_plan.specs.Weight.{far_weight, least_weight}
 use Rattle.tree_plan.specs.Answer.{tree_answer}
@@ -130,10 +132,8 @@ module _ (T T' : Tree) (F : Formed T) (F' : Formed T') (A : Alike T T') where
           tree_answer T m ≡ tree_answer T' m
       go true e true g =
           let r = only-best T' m _ _ _ _ (best-alike m _ _ (found T F m (ltb-true _ _ e))) (found T' F' m (ltb-true _ _ g)) in
-          simp (e, g)
-          (ap₂ (λ (p : List ℕ) (c : ℕ). record { found = true; places = p; total = c })
-          (ap₂ spread A.stations r.0)
-          r.1)
+          let answer : List ℕ → ℕ → Option Plan = λ p c. Some (record { places = p; total = c }) in
+          simp (e, g) (ap₂ answer (ap₂ spread A.stations r.0) r.1)
       go true e false g =
           absurd (none-admitted T' F' S' m _ (admitted-alike T T' F A m _ (found T F m (ltb-true _ _ e)).admitted) (ltb-false _ _ g))
       go false e true g =

@@ -1,4 +1,5 @@
 -- On a tree without forks the answer is the one of the stations in a row. Assumes nothing.
+use Rattle.std.specs.Prelude.{Option, Some}
 use Prim.Native.Nat.{ℕ, zero, suc, ◌+◌, ◌*◌, ◌≤◌, ◌<◌}
 use mathlib.Core.Path.{◌≡◌, refl, sym, ap, ap₂, subst, ◌∙◌}
 use mathlib.Core.Bool.{Bool, true, false}
@@ -13,6 +14,7 @@ use borrow.Author.Tests.{ltb-true, ltb-false}
 use Rattle.plan.specs.Net.{Net, Coming, price, still, after, Keeps, moves_of, cost_of}
 use Rattle.plan.specs.Value.{far}
 use Rattle.plan.specs.Answer.{spread, plan_answer}
+use Rattle.plan.specs.declared.Plan.{Plan}
 use Rattle.plan.proofs.Theorems.{best-found, none_found, best-one}
 use Rattle.tree_plan.specs.Tree.{Tree, Earlier, Formed, sum_to, at, link_moves, link_cost, plan_moves, plan_cost, Admitted, Best}
 use Rattle.tree_plan.specs.Weight.{far_weight, least_weight}
@@ -231,7 +233,8 @@ module _ (T : Tree) (F : Formed T) (U : Unforked T) where
           tree_answer T m ≡ plan_answer (in_row T) m
       go true e true g =
           let r = best-one (in_row T) m _ _ _ _ (best-row m _ _ (found T F m (ltb-true _ _ e))) (best-found (in_row T) m (ltb-true _ _ g)) in
-          simp (e, g) (ap₂ (λ (p : List ℕ) (c : ℕ). record { found = true; places = spread T.stations p; total = c }) r.0 r.1)
+          let answer : List ℕ → ℕ → Option Plan = λ p c. Some (record { places = spread T.stations p; total = c }) in
+          simp (e, g) (ap₂ answer r.0 r.1)
       go true e false g =
           absurd (none_found (in_row T) m small F.few (ltb-false _ _ g) _ (to_row m _ (found T F m (ltb-true _ _ e)).admitted))
       go false e true g =

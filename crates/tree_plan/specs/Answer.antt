@@ -1,17 +1,17 @@
 -- The planner's answer over a tree, and a tree without forks. Assumes nothing.
-use Rattle.std.specs.Prelude.{ℕ, suc, ◌<◌, ◌≡◌, true, false, replicate}
+use Rattle.std.specs.Prelude.{ℕ, suc, ◌<◌, ◌≡◌, cond, Option, Some, None}
 use Rattle.plan.specs.Net.{Net}
-use Rattle.plan.specs.Answer.{max_stations, spread, pick_plan}
+use Rattle.plan.specs.Answer.{spread}
 use Rattle.plan.specs.declared.Plan.{Plan}
 use Rattle.tree_plan.specs.Tree.{Tree}
 use Rattle.tree_plan.specs.Weight.{least_cost, best_plan, has_plan}
 
--- the best plan and its cost with zeros in the unused places, or zeros where no plan is admitted
-unfoldable pub tree_answer : Tree → ℕ → Plan
+-- the best plan and its cost with zeros in the unused places, or none where no plan is admitted
+unfoldable pub tree_answer : Tree → ℕ → Option Plan
 tree_answer T moves =
-    pick_plan (has_plan T moves)
-    (record { found = true; places = spread T.stations (best_plan T moves); total = least_cost T moves })
-    (record { found = false; places = replicate max_stations 0; total = 0 })
+    cond (has_plan T moves)
+    (Some (record { places = spread T.stations (best_plan T moves); total = least_cost T moves }))
+    None
 
 -- no station is named by two others
 unfoldable pub Unforked : Tree → Type 0

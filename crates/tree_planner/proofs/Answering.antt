@@ -1,7 +1,7 @@
 -- The plan that a weight holds, and the planner's answer. Assumes nothing.
 use Prim.Native.Nat.{ℕ, ◌+◌, ◌*◌, ◌-◌, ◌/◌, ◌^◌, ◌≤◌, ◌<◌}
 use mathlib.Core.Path.{◌≡◌, refl, sym, ap, ap₂, subst, ◌∙◌}
-use mathlib.Core.Bool.{Bool, true, false}
+use mathlib.Core.Bool.{Bool}
 use mathlib.Core.List.{List, ◌++◌}
 use native.Mathlib.Omega.{arith}
 use native.Mathlib.Decide.{dec_lt}
@@ -9,6 +9,7 @@ use native.Mathlib.Nat.{div-div-eq-div-mul}
 use borrow.Author.Tests.{lt-ltb, le-ltb}
 use lib.ListN.{length, get_or, set, length-set, replicate, length-append, length-replicate, get_or-append}
 use lib.Seq.{get_or-set_same, get_or-set_other, ext_get_or, get_or-append-add}
+use Rattle.std.specs.Prelude.{Option, Some, None}
 use Rattle.radix.specs.Radix.{tab}
 use Rattle.radix.proofs.Radix.{length-tab, get_d-tab}
 use Rattle.plan.specs.Answer.{spread}
@@ -102,9 +103,9 @@ least-is parents counts sizes moved n cells moves T T' H branch d R w e =
 
 -- the plan that a weight holds
 module _ (w : Weight) (G : Worded w) (n : ℕ) where
-  pub plan-none : 2 ^ 60 ≤ w.top → record { found = false; places = replicate 64 0; total = 0 } ≡ plan_of (value_of w) n
+  pub plan_none : 2 ^ 60 ≤ w.top → None ≡ plan_of (value_of w) n
   unfolding plan_of
-  plan-none h = simp (le-ltb _ _ (far-le w.top w.high w.mid w.low h))
+  plan_none h = simp (le-ltb _ _ (far-le w.top w.high w.mid w.low h))
 
   cost-is : w.top / 8 ≡ value_of w / scale
   unfolding scale
@@ -114,21 +115,24 @@ module _ (w : Weight) (G : Worded w) (n : ℕ) where
       ∙ div-div-eq-div-mul (value_of w / 2 ^ 63) (2 ^ 63) (2 ^ 63 * 8)
       ∙ div-div-eq-div-mul (value_of w) (2 ^ 63) (2 ^ 63 * (2 ^ 63 * 8))
 
-  pub plan-some :
+  abbrev found : List ℕ → ℕ → Option Plan
+  found q t = Some (record { places = q; total = t })
+
+  pub plan_some :
       (places : List ℕ) →
       w.top < 2 ^ 60 →
       places ≡ spread n (tab (place_in (value_of w)) n) →
-      record { found = true; places = places; total = w.top / 8 } ≡ plan_of (value_of w) n
+      Some (record { places = places; total = w.top / 8 }) ≡ plan_of (value_of w) n
   unfolding plan_of
-  plan-some places h p =
+  plan_some places h p =
       let l : value_of w < far_weight = subst (λ (x : ℕ). value_of w < x) far-value (value-lt w (word (2 ^ 60) 0 0 0) G h) in
-      simp (lt-ltb _ _ l) (ap₂ (λ (q : List ℕ) (t : ℕ). record { found = true; places = q; total = t }) p cost-is)
+      simp (lt-ltb _ _ l) (ap₂ found p cost-is)
 
 -- the planner's answer
 pub plan-is :
     (parents counts sizes moved : List ℕ) (n cells moves : ℕ) →
     Usable parents counts sizes moved n cells →
-    (w : ℕ) (r : Plan) →
+    (w : ℕ) (r : Option Plan) →
     r ≡ plan_of w n →
     w ≡ least_weight (tabled parents counts sizes moved n cells) moves →
     r ≡ tree_answer (tabled parents counts sizes moved n cells) moves

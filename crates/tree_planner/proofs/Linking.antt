@@ -1,6 +1,6 @@
 -- A station merged into its parent: the links between them, and what the table then says. Assumes nothing.
 use Prim.Native.Nat.{ℕ, zero, suc, ◌+◌, ◌*◌, ◌-◌, ◌^◌, ◌≤◌, ◌<◌}
-use mathlib.Core.Path.{◌≡◌, sym, ap, ap₂, subst, ◌∙◌}
+use mathlib.Core.Path.{◌≡◌, refl, sym, ap, ap₂, subst, ◌∙◌}
 use mathlib.Core.Bool.{Bool, true, false, ◌||◌}
 use mathlib.Core.List.{List}
 use native.Mathlib.Omega.{arith}
@@ -8,7 +8,9 @@ use native.Mathlib.Numerals.{add-one}
 use native.Mathlib.Decide.{ℕ_discrete, dec_lt}
 use borrow.Author.Tests.{eq-eqb, ne_eqb}
 use lib.Dec.{leb, eqb}
-use lib.ListN.{length, get_or}
+use lib.ListN.{length, get_or, take, drop}
+use lib.Seq.{drop-cons}
+use Rattle.std.specs.List.{list_any}
 use Rattle.plan.specs.Net.{price}
 use Rattle.plan.specs.Value.{pick}
 use Rattle.plan.proofs.Bounds.{at_most}
@@ -27,12 +29,6 @@ use Rattle.tree_planner.proofs.Filling.{row-agree}
 
 cost-low : (f r : ℕ) → f ≤ 1 → r ≤ 2 ^ 42 → f * r ≤ 2 ^ 42
 cost-low f r h l = omega (arith, at_most f r h)
-
-pub cost-fits : (f r : ℕ) → f ≤ 1 → r ≤ 2 ^ 42 → f * r < 2 ^ 64
-cost-fits f r h l = omega (arith, cost-low f r h l)
-
-pub top-fits : (f r : ℕ) → f ≤ 1 → r ≤ 2 ^ 42 → f * r * 8 < 2 ^ 64
-top-fits f r h l = omega (arith, cost-low f r h l)
 
 -- what a link weighs
 pub link-value :
@@ -72,6 +68,15 @@ module _ (parents : List ℕ) (u i n : ℕ) (l : i < n) where
   named_past e =
       named-next parents u i n l
       ∙ ap (λ (t : Bool). t || named parents u (i + 1) (n - (i + 1))) (ne_eqb (get_or parents i 0) u e)
+
+-- what `contains` says of a part of the list
+pub any-named :
+    (parents : List ℕ) (u i d : ℕ) → i + d ≤ length parents → list_any (λ y. eqb y u) (take d (drop i parents)) ≡ named parents u i d
+unfolding named
+any-named parents u i zero l = refl
+any-named parents u i (suc d) l =
+    ap (λ (xs : List ℕ). list_any (λ y. eqb y u) (take (suc d) xs)) (drop-cons parents i 0 (omega arith))
+    ∙ ap (λ (t : Bool). eqb (get_or parents i 0) u || t) (any-named parents u (suc i) d (omega arith))
 
 pub named_end : (parents : List ℕ) (u i n : ℕ) → n ≤ i → named parents u i (n - i) ≡ false
 unfolding named

@@ -3,7 +3,6 @@ use Prim.Native.Nat.{ℕ, zero, suc, ◌+◌, ◌*◌, ◌-◌, ◌/◌, ◌%◌
 use mathlib.Core.Path.{◌≡◌, refl, sym, ap, ap₂, subst, ◌∙◌}
 use mathlib.Core.List.{List}
 use native.Mathlib.Omega.{arith}
-use native.Mathlib.Numerals.{add-one}
 use native.Mathlib.Nat.{pow-succ', pow-le-pow_right, mul_assoc, mul_comm, one-le-pow, mul-le-mul_right, div-div-eq-div-mul, mul-add-div_right, mul-add-mod_self_right}
 use borrow.Author.Tests.{le-leb, lt-leb}
 use lib.ListN.{get_or}
@@ -15,9 +14,6 @@ use Rattle.tree_planner.proofs.Adding.{word, raise-value, small-good}
 
 pub power-low : (i : ℕ) → i ≤ 20 → 8 ^ i ≤ 2 ^ 60
 power-low i h = pow-le-pow_right (omega arith) h
-
-pub power-next : (i p : ℕ) → p ≡ 8 ^ i → p * 8 ≡ 8 ^ (i + 1)
-power-next i p e = rw add-one (omega (arith, pow-succ' 8 i))
 
 power-add : (x y : ℕ) → 8 ^ (x + y) ≡ 8 ^ x * 8 ^ y
 power-add zero y =
@@ -47,9 +43,6 @@ unfolding unit
 unit-mid i h =
     let e : 63 - i ≡ 42 - i + 21 = omega arith in
     ap (λ (x : ℕ). 8 ^ x) e ∙ power-add (42 - i) 21
-
-pub power-end : (i x p : ℕ) → i ≡ x → x ≤ 20 → p ≡ 8 ^ i → (p ≡ 8 ^ x) × (p ≤ 2 ^ 60)
-power-end i x p e l h = let q : p ≡ 8 ^ x = h ∙ ap (λ (y : ℕ). 8 ^ y) e in (q, omega (arith, power-low x l))
 
 -- Values of words that hold one digit.
 zero-out : (x : ℕ) → x * 2 ^ 63 + 0 ≡ x * 2 ^ 63
@@ -82,9 +75,6 @@ value_low l = zero_in l
 
 pub digit_low : (d p : ℕ) → d < 8 → p ≤ 2 ^ 60 → d * p < 2 ^ 63
 digit_low d p h l = let e : d * p ≤ 7 * p = mul-le-mul_right p (omega arith) in omega arith
-
-pub digit-fits : (d p : ℕ) → d < 8 → p ≤ 2 ^ 60 → d * p < 2 ^ 64
-digit-fits d p h l = omega (arith, digit_low d p h l)
 
 module _ (sizes : List ℕ) (cells i d : ℕ) (few : cells ≤ 2 ^ 40) (low : d < 8) where
   abbrev size : ℕ
@@ -128,11 +118,15 @@ module _ (sizes : List ℕ) (cells i d : ℕ) (few : cells ≤ 2 ^ 40) (low : d 
       subst (λ (x : ℕ). (value_of (word x h m l) ≡ own_at sizes cells i d) × Good (word x h m l)) e
 
   pub own_first :
-      i ≡ 0 → size ≤ cells → (value_of (word (d + size * 8) 0 0 0) ≡ own_at sizes cells i d) × Good (word (d + size * 8) 0 0 0)
+      i ≡ 0 → size ≤ cells → (value_of (word (size * 8 + d) 0 0 0) ≡ own_at sizes cells i d) × Good (word (size * 8 + d) 0 0 0)
   own_first e s =
-      on-top d 0 0 0 s low (omega arith) (omega arith) (omega arith)
-      (value-top d ∙ three ∙ ap (λ (x : ℕ). d * x) (sym unit-first ∙ ap unit (sym e)))
+      subst (λ (x : ℕ). (value_of (word x 0 0 0) ≡ own_at sizes cells i d) × Good (word x 0 0 0)) after
+      (on-top d 0 0 0 s low (omega arith) (omega arith) (omega arith)
+      (value-top d ∙ three ∙ ap (λ (x : ℕ). d * x) (sym unit-first ∙ ap unit (sym e))))
     where
+      after : d + size * 8 ≡ size * 8 + d
+      after = omega arith
+
       three : d * 2 ^ 63 * 2 ^ 63 * 2 ^ 63 ≡ d * (1 * 2 ^ 63 * 2 ^ 63 * 2 ^ 63)
       three = ap (λ (x : ℕ). x * 2 ^ 63) (mul_assoc d (2 ^ 63) (2 ^ 63)) ∙ mul_assoc d (2 ^ 63 * 2 ^ 63) (2 ^ 63)
 

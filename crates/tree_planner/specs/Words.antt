@@ -1,7 +1,7 @@
 -- The planner's tables as a tree, and weights in four words. Assumes nothing.
-use Rattle.std.specs.Prelude.{ℕ, ◌+◌, ◌*◌, ◌/◌, ◌^◌, ◌≤◌, ◌<◌, ◌≡◌, List, true, false, length, get_or, replicate, ltb}
+use Rattle.std.specs.Prelude.{ℕ, ◌+◌, ◌*◌, ◌/◌, ◌^◌, ◌≤◌, ◌<◌, ◌≡◌, List, length, get_or, ltb, cond, Option, Some, None}
 use Rattle.radix.specs.Radix.{tab}
-use Rattle.plan.specs.Answer.{max_stations, spread, pick_plan}
+use Rattle.plan.specs.Answer.{spread}
 use Rattle.plan.specs.declared.Plan.{Plan}
 use Rattle.tree_plan.specs.Weight.{scale, far_weight, place_in}
 use Rattle.tree_plan.specs.Tree.{Tree}
@@ -67,8 +67,8 @@ pub record Sound (T : List ℕ) : Type 0 where
   pub good : (e : ℕ) → Good (words_at T e)
 
 -- the plan that a weight holds, for n stations
-unfoldable pub plan_of : ℕ → ℕ → Plan
+unfoldable pub plan_of : ℕ → ℕ → Option Plan
 plan_of w n =
-    pick_plan (ltb w far_weight)
-    (record { found = true; places = spread n (tab (place_in w) n); total = w / scale })
-    (record { found = false; places = replicate max_stations 0; total = 0 })
+    cond (ltb w far_weight)
+    (Some (record { places = spread n (tab (place_in w) n); total = w / scale }))
+    None

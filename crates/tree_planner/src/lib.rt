@@ -43,7 +43,7 @@ const BASE: u64 = 9223372036854775808;
 const FAR: u64 = 1152921504606846976;
 
 // A plan's cost, then its places as digits in base 8: 8 times the cost and the first place, then 21 places to a word.
-#[derive(Clone, Copy)]
+#[derive(Clone, Copy, PartialEq, Eq, PartialOrd, Ord)]
 struct Weight {
     top: u64,
     high: u64,
@@ -72,23 +72,6 @@ fn far() -> Weight
     }
 }
 
-// Is a less than b?
-fn less(a: Weight, b: Weight) -> bool
-    requires { Worded a × Worded b }
-    ensures { result ≡ ltb (value_of a) (value_of b) }
-{
-    if a.top != b.top {
-        return a.top < b.top;
-    }
-    if a.high != b.high {
-        return a.high < b.high;
-    }
-    if a.mid != b.mid {
-        return a.mid < b.mid;
-    }
-    a.low < b.low
-}
-
 // The sum of a and b.
 fn sum(a: Weight, b: Weight) -> Weight
     requires { Good a × Good b }
@@ -103,14 +86,6 @@ fn sum(a: Weight, b: Weight) -> Weight
         mid: mid % BASE,
         low: low % BASE,
     }
-}
-
-// The smaller one.
-fn smaller(a: Weight, b: Weight) -> Weight
-    requires { Good a × Worded b }
-    ensures { (value_of result ≡ min (value_of a) (value_of b)) × Good result }
-{
-    if less(b, a) { b } else { a }
 }
 
 // The weight at an entry of a table.
@@ -147,7 +122,7 @@ fn lower(table: &mut [u64], at: usize, x: Weight, y: Weight)
         return;
     }
     let w = sum(x, y);
-    if less(w, load(table, at)) {
+    if w < load(table, at) {
         store(table, at, w);
     }
 }
@@ -157,10 +132,8 @@ fn start_row(table: &mut [u64], row: usize, w: Weight, columns: usize)
     requires { Sound table.old × (row < 512) × (row * 256 + 256 ≤ length table.old) × Good w × (columns ≤ 64) }
     ensures { Row table.old table.new row columns (λ k. value_of w) }
 {
-    let mut k: usize = 0;
-    while k < columns {
+    for k in 0..columns {
         store(table, row * COLUMNS + k, w);
-        k += 1;
     }
 }
 
@@ -170,11 +143,10 @@ fn copy_row(table: &mut [u64], row: usize, room: &[u64], columns: usize)
     ensures { Row table.old table.new row columns
         (λ k. weight_at room.now (8 * 64 + k)) }
 {
-    let mut k: usize = 0;
-    while k < columns {
-        store(table, row * COLUMNS + k, load(room, WORK_ROW * COLUMNS + k));
-        k += 1;
-    }
+    let to = row * COLUMNS * ENTRY_WORDS;
+    let from = WORK_ROW * COLUMNS * ENTRY_WORDS;
+    let words = columns * ENTRY_WORDS;
+    table[to..to + words].copy_from_slice(&room[from..from + words]);
 }
 
 // Lowers a row of the room to a row of the table, some moves later and with a weight more.
@@ -192,11 +164,9 @@ fn lower_row(
     ensures { Row room.old room.new to columns
         (lowered room.old to table.now row taken (value_of extra)) }
 {
-    let mut k = taken;
-    while k < columns {
+    for k in taken..columns {
         let x = load(table, row * COLUMNS + (k - taken));
         lower(room, to * COLUMNS + k, x, extra);
-        k += 1;
     }
 }
 
@@ -242,12 +212,10 @@ fn reach_row(
         (linked sizes.now moved.now table.now u v a k)) }
 {
     start_row(room, a, far(), columns);
-    let mut b: usize = 0;
-    while b < count {
+    for b in 0..count {
         let taken = moved[(v * MAX_LAYOUTS + a) * MAX_LAYOUTS + b];
         let extra = link_weight(sizes, taken, u * MAX_LAYOUTS + a, v * MAX_LAYOUTS + b);
         lower_row(room, a, table, v * MAX_LAYOUTS + b, taken, extra, columns);
-        b += 1;
     }
 }
 
@@ -268,10 +236,8 @@ fn reach(
     ensures { Rows room.old room.new 0 places columns (λ a k. lowest far_weight count
         (linked sizes.now moved.now table.now u v a k)) }
 {
-    let mut a: usize = 0;
-    while a < places {
+    for a in 0..places {
         reach_row(sizes, moved, table, u, v, count, a, room, columns);
-        a += 1;
     }
 }
 
@@ -283,11 +249,9 @@ fn join_first(table: &mut [u64], row: usize, own: Weight, room: &[u64], a: usize
         (together (λ k. value_of own) room.now a) }
 {
     let mut best = far();
-    let mut k: usize = 0;
-    while k < columns {
-        best = smaller(best, sum(own, load(room, a * COLUMNS + k)));
+    for k in 0..columns {
+        best = best.min(sum(own, load(room, a * COLUMNS + k)));
         store(table, row * COLUMNS + k, best);
-        k += 1;
     }
 }
 
@@ -300,11 +264,9 @@ fn join_further(table: &mut [u64], row: usize, room: &mut [u64], a: usize, colum
         × Kept room.old room.new }
 {
     start_row(room, WORK_ROW, far(), columns);
-    let mut j: usize = 0;
-    while j < columns {
+    for j in 0..columns {
         let extra = load(room, a * COLUMNS + j);
         lower_row(room, WORK_ROW, table, row, j, extra, columns);
-        j += 1;
     }
     copy_row(table, row, room, columns);
 }
@@ -314,14 +276,7 @@ fn has_child(parents: &[usize], n: usize, u: usize, v: usize) -> bool
     requires { (length parents.now ≡ 64) × (n ≤ 64) × (v < n) }
     ensures { result ≡ named parents.now u (v + 1) (n - (v + 1)) }
 {
-    let mut i = v + 1;
-    while i < n {
-        if parents[i] == u {
-            return true;
-        }
-        i += 1;
-    }
-    false
+    parents[v + 1..n].contains(&u)
 }
 
 // 8 to the power x.
@@ -330,13 +285,7 @@ fn eights(x: usize) -> u64
     ensures value { result ≡ 8 ^ x }
     ensures upper_bound { result ≤ 2 ^ 60 }
 {
-    let mut p: u64 = 1;
-    let mut i: usize = 0;
-    while i < x {
-        p *= 8;
-        i += 1;
-    }
-    p
+    8u64.pow(x as u32)
 }
 
 // The weight of place b of station i alone.
@@ -356,18 +305,14 @@ fn own_of(sizes: &[u64], cells: u64, i: usize, b: usize) -> Weight
         low: 0,
     };
     if i == 0 {
-        w.top = digit + size * 8;
-        return w;
-    }
-    if i < 22 {
+        w.top += digit;
+    } else if i < 22 {
         w.high = digit * eights(21 - i);
-        return w;
-    }
-    if i < 43 {
+    } else if i < 43 {
         w.mid = digit * eights(42 - i);
-        return w;
+    } else {
+        w.low = digit * eights(63 - i);
     }
-    w.low = digit * eights(63 - i);
     w
 }
 
@@ -385,15 +330,13 @@ fn start_station(
     ensures { Rows table.old table.new (i * 8) count columns
         (λ b k. own_at sizes.now cells i b) }
 {
-    let mut b: usize = 0;
-    while b < count {
+    for b in 0..count {
         start_row(
             table,
             i * MAX_LAYOUTS + b,
             own_of(sizes, cells, i, b),
             columns,
         );
-        b += 1;
     }
 }
 
@@ -412,10 +355,9 @@ fn ready(
     ensures { Rows table.old table.new (v * 8) count columns
         (held merged table.old sizes.now cells v) }
 {
-    if merged {
-        return;
+    if !merged {
+        start_station(sizes, cells, v, count, table, columns);
     }
-    start_station(sizes, cells, v, count, table, columns);
 }
 
 // Joins row a of the room to station u's row, or to its own weight where no child of it is merged yet.
@@ -438,16 +380,16 @@ fn join_row(
 {
     if merged {
         join_further(table, u * MAX_LAYOUTS + a, room, a, columns);
-        return;
+    } else {
+        join_first(
+            table,
+            u * MAX_LAYOUTS + a,
+            own_of(sizes, cells, u, a),
+            room,
+            a,
+            columns,
+        );
     }
-    join_first(
-        table,
-        u * MAX_LAYOUTS + a,
-        own_of(sizes, cells, u, a),
-        room,
-        a,
-        columns,
-    );
 }
 
 // The same for each place of u.
@@ -468,19 +410,14 @@ fn join(
         (λ a. together (held merged table.old sizes.now cells u a) room.old a)
         × Kept room.old room.new }
 {
-    let mut a: usize = 0;
-    while a < count {
+    for a in 0..count {
         join_row(sizes, cells, u, a, merged, table, room, columns);
-        a += 1;
     }
 }
 
 // Merges station v into its parent.
 fn merge_one(
-    parents: &[usize],
-    counts: &[usize],
-    sizes: &[u64],
-    moved: &[usize],
+    tables: &TreeTables,
     n: usize,
     cells: u64,
     table: &mut [u64],
@@ -488,44 +425,48 @@ fn merge_one(
     room: &mut [u64],
     columns: usize,
 )
-    requires usable { Usable parents.now counts.now sizes.now moved.now n cells }
+    requires usable { Usable tables.now.parents tables.now.counts tables.now.sizes tables.now.moved n cells }
     requires space { Space table.old table_words × Space room.old room_words × (1 ≤ v) × (v < n) × Columns columns }
-    ensures { Merged parents.now counts.now sizes.now moved.now
+    ensures { Merged tables.now.parents tables.now.counts tables.now.sizes tables.now.moved
         n cells columns table.old table.new v × Sound room.new }
 {
-    let u = parents[v];
-    let places = counts[u];
-    let count = counts[v];
-    let branch = has_child(parents, n, v, v);
+    let sizes = &tables.sizes;
+    let u = tables.parents[v];
+    let places = tables.counts[u];
+    let count = tables.counts[v];
+    let branch = has_child(&tables.parents, n, v, v);
     ready(sizes, cells, v, count, branch, table, columns);
-    reach(sizes, moved, table, u, v, places, count, room, columns);
-    let forked = has_child(parents, n, u, v);
+    reach(
+        sizes,
+        &tables.moved,
+        table,
+        u,
+        v,
+        places,
+        count,
+        room,
+        columns,
+    );
+    let forked = has_child(&tables.parents, n, u, v);
     join(sizes, cells, u, places, forked, table, room, columns);
 }
 
 // Merges every station but the first.
 fn merge_all(
-    parents: &[usize],
-    counts: &[usize],
-    sizes: &[u64],
-    moved: &[usize],
+    tables: &TreeTables,
     n: usize,
     cells: u64,
     table: &mut [u64],
     room: &mut [u64],
     columns: usize,
 )
-    requires usable { Usable parents.now counts.now sizes.now moved.now n cells }
+    requires usable { Usable tables.now.parents tables.now.counts tables.now.sizes tables.now.moved n cells }
     requires space { Space table.old table_words × Space room.old room_words × Columns columns }
-    ensures { Shrunk parents.now counts.now sizes.now moved.now
+    ensures { Shrunk tables.now.parents tables.now.counts tables.now.sizes tables.now.moved
         n cells columns table.new 0 }
 {
-    let mut v = n - 1;
-    while 0 < v {
-        merge_one(
-            parents, counts, sizes, moved, n, cells, table, v, room, columns,
-        );
-        v -= 1;
+    for v in (1..n).rev() {
+        merge_one(tables, n, cells, table, v, room, columns);
     }
 }
 
@@ -536,10 +477,8 @@ fn least(table: &[u64], count: usize, moves: usize) -> Weight
         × Good result }
 {
     let mut best = far();
-    let mut b: usize = 0;
-    while b < count {
-        best = smaller(best, load(table, b * COLUMNS + moves));
-        b += 1;
+    for b in 0..count {
+        best = best.min(load(table, b * COLUMNS + moves));
     }
     best
 }
@@ -549,16 +488,16 @@ fn place_in(w: Weight, i: usize) -> usize
     requires { Worded w × (i < 64) }
     ensures { result ≡ place_in (value_of w) i }
 {
-    if i == 0 {
-        return (w.top % 8) as usize;
-    }
-    if i < 22 {
-        return (w.high / eights(21 - i) % 8) as usize;
-    }
-    if i < 43 {
-        return (w.mid / eights(42 - i) % 8) as usize;
-    }
-    (w.low / eights(63 - i) % 8) as usize
+    let digits = if i == 0 {
+        w.top
+    } else if i < 22 {
+        w.high / eights(21 - i)
+    } else if i < 43 {
+        w.mid / eights(42 - i)
+    } else {
+        w.low / eights(63 - i)
+    };
+    (digits % 8) as usize
 }
 
 // The places of n stations in a weight.
@@ -567,75 +506,58 @@ fn places_of(w: Weight, n: usize) -> [usize; MAX_STATIONS]
     ensures { result ≡ spread n (tab (place_in (value_of w)) n) }
 {
     let mut out = [0usize; MAX_STATIONS];
-    let mut i: usize = 0;
-    while i < n {
+    for i in 0..n {
         out[i] = place_in(w, i);
-        i += 1;
     }
     out
 }
 
 // The least weight of a plan, with space for the table and the room.
 fn least_weight(
-    parents: &[usize],
-    counts: &[usize],
-    sizes: &[u64],
-    moved: &[usize],
+    tables: &TreeTables,
     n: usize,
     cells: u64,
     moves: usize,
     table: &mut [u64],
     room: &mut [u64],
 ) -> Weight
-    requires usable { Usable parents.now counts.now sizes.now moved.now n cells × (moves < 64) }
+    requires usable { Usable tables.now.parents tables.now.counts tables.now.sizes tables.now.moved n cells × (moves < 64) }
     requires space { Space table.old table_words × Space room.old room_words }
-    ensures { (value_of result ≡ least_weight (tabled parents.now counts.now sizes.now
-        moved.now n cells) moves) × Worded result }
+    ensures { (value_of result ≡ least_weight (tabled tables.now.parents tables.now.counts tables.now.sizes
+        tables.now.moved n cells) moves) × Worded result }
 {
     let columns = moves + 1;
-    merge_all(
-        parents, counts, sizes, moved, n, cells, table, room, columns,
-    );
-    let count = counts[0];
-    let branch = has_child(parents, n, 0, 0);
-    ready(sizes, cells, 0, count, branch, table, columns);
+    merge_all(tables, n, cells, table, room, columns);
+    let count = tables.counts[0];
+    let branch = has_child(&tables.parents, n, 0, 0);
+    ready(&tables.sizes, cells, 0, count, branch, table, columns);
     least(table, count, moves)
 }
 
 // The plan that a weight holds, or none where it is `far`.
-fn plan_of(w: Weight, n: usize) -> Plan
+#[tactic(auto, using(crate::proofs::Answering::plan_none, crate::proofs::Answering::plan_some))]
+fn plan_of(w: Weight, n: usize) -> Option<Plan>
     requires { Worded w × (n ≤ 64) }
     ensures { result ≡ plan_of (value_of w) n }
 {
     if FAR <= w.top {
-        return Plan {
-            found: false,
-            places: [0usize; MAX_STATIONS],
-            total: 0,
-        };
-    }
-    let places = places_of(w, n);
-    Plan {
-        found: true,
-        places,
-        total: w.top / 8,
+        None
+    } else {
+        Some(Plan {
+            places: places_of(w, n),
+            total: w.top / 8,
+        })
     }
 }
 
 // The best plan over a tree of n stations, within the cell limit and the limit on moves.
-pub fn best_tree_plan(tables: TreeTables, n: usize, cells: u64, moves: usize) -> Plan
+pub fn best_tree_plan(tables: TreeTables, n: usize, cells: u64, moves: usize) -> Option<Plan>
     requires { Usable tables.parents tables.counts tables.sizes tables.moved n cells × (moves < 64) }
     ensures { result
         ≡ tree_answer (tabled tables.parents tables.counts tables.sizes tables.moved n cells) moves }
 {
-    let parents = tables.parents;
-    let counts = tables.counts;
-    let sizes = tables.sizes;
-    let moved = tables.moved;
     let mut table = [0u64; TABLE_WORDS];
     let mut room = [0u64; ROOM_WORDS];
-    let w = least_weight(
-        &parents, &counts, &sizes, &moved, n, cells, moves, &mut table, &mut room,
-    );
+    let w = least_weight(&tables, n, cells, moves, &mut table, &mut room);
     plan_of(w, n)
 }

@@ -1,4 +1,5 @@
 -- Numbers kept within 2^62 and their sums, term by term. Assumes nothing.
+use Rattle.std.specs.Prelude.{Some, None, unwrap_or}
 use mathlib.Core.Path.{◌≡◌, refl, ap}
 use mathlib.Core.Bool.{Bool, true, false, cond}
 use Prim.Native.Nat.{ℕ, zero, suc, ◌<◌, ◌≤◌}
@@ -7,6 +8,7 @@ use native.Mathlib.Omega.{arith}
 use Rattle.folding.specs.Fold.{scale_sum, cons_term}
 use borrow.Author.Tests.{le-leb, lt-leb}
 use Rattle.folding.specs.Sum.{Sum, Atom}
+use Rattle.integer.specs.Exact.{exactly}
 use Rattle.expression.specs.Expression.{is_small}
 use Rattle.words.specs.Saturated.{over_limit, saturate, saturate_sum, scaled}
 
@@ -43,3 +45,16 @@ scale-stays z c a t h = sat-cons (z *ℤ c) a (scale_sum z t) h
 pub scale-const : (z k : ℤ) → scaled z (Sum.const k) ≡ Sum.const (saturate (z *ℤ k))
 unfolding scaled scale_sum saturate_sum
 scale-const z k = refl
+
+pub sat-large : (z : ℤ) → is_small z ≡ false → saturate z ≡ over_limit
+unfolding saturate
+sat-large z e = rw e
+
+-- the number of exact working, or the one past the limit
+pub sat-exactly : (z : ℤ) → unwrap_or (exactly z) over_limit ≡ saturate z
+unfolding saturate exactly
+sat-exactly z = go (is_small z)
+  where
+    go : (b : Bool) → unwrap_or (cond b (Some z) None) over_limit ≡ cond b z over_limit
+    go true = refl
+    go false = refl

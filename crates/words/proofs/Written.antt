@@ -1,12 +1,12 @@
 -- Writing words one after another. Assumes nothing.
 use mathlib.Core.Path.{◌≡◌, refl, sym, ap, ◌∙◌}
 use mathlib.Core.List.{List, [], ◌∷◌, ◌++◌, append_assoc, append-nil}
-use Prim.Native.Nat.{ℕ, zero, suc, ◌+◌, ◌-◌, ◌<◌, ◌≤◌}
+use Prim.Native.Nat.{ℕ, zero, suc, ◌+◌, ◌<◌, ◌≤◌}
 use native.Mathlib.Omega.{arith}
 use native.Mathlib.Numerals.{add-one}
-use lib.IntN.{ℤ, pos}
-use lib.ListN.{length, drop, take, get_or, set, length-drop, length-append, length-set}
-use lib.Seq.{take-suc-set, take_all, length-take-le, take-append-le, take-suc, get_or-drop}
+use lib.IntN.{ℤ}
+use lib.ListN.{length, take, set, length-append, length-set}
+use lib.Seq.{take-suc-set, take_all, length-take-le, take-append-le}
 use Rattle.words.specs.Promises.{Puts}
 
 -- what passes the room may be cut off now or later
@@ -33,12 +33,3 @@ both o o1 o2 at e r ws vs h k =
       is = k.is ∙ ap (λ (n : ℕ). take n (take e o1 ++ vs)) h.same ∙ ap (λ (l : List ℤ). take (length o) (l ++ vs)) h.is
           ∙ cut (length o) (take at o ++ ws) vs ∙ ap (λ (l : List ℤ). take (length o) l) (append_assoc (take at o) ws vs);
     }
-
--- one word more of a part
-pub part-more : (w : List ℤ) (p i : ℕ) → p ≤ i → i < length w → take (i + 1 - p) (drop p w) ≡ take (i - p) (drop p w) ++ (get_or w i (pos 0) ∷ [])
-part-more w p i h k =
-    let n : i + 1 - p ≡ suc (i - p) = omega arith in
-    let m : p + (i - p) ≡ i = omega arith in
-    ap (λ (j : ℕ). take j (drop p w)) n
-    ∙ take-suc (drop p w) (i - p) (pos 0) (omega (arith, length-drop p w))
-    ∙ ap (λ (x : ℤ). take (i - p) (drop p w) ++ (x ∷ [])) (get_or-drop p w (i - p) (pos 0) ∙ ap (λ (j : ℕ). get_or w j (pos 0)) m)

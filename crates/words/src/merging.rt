@@ -10,11 +10,7 @@ use super::{Made, numbers, places, writing};
 pub fn compare_words(a: &[i64], b: &[i64]) -> u8
     ensures { result ≡ order_number (word_order a.now b.now) }
 {
-    let mut i: usize = 0;
-    while i < a.len() {
-        if i >= b.len() {
-            return 2;
-        }
+    for i in 0..a.len().min(b.len()) {
         let x = a[i];
         let y = b[i];
         if x < y {
@@ -23,10 +19,12 @@ pub fn compare_words(a: &[i64], b: &[i64]) -> u8
         if y < x {
             return 2;
         }
-        i += 1;
     }
-    if i < b.len() {
+    if a.len() < b.len() {
         return 0;
+    }
+    if b.len() < a.len() {
+        return 2;
     }
     1
 }

@@ -1,11 +1,10 @@
 // Numbers of magnitude at most 2^62: exact sums and products, or one past the limit.
 ghost use Rattle.std.specs.Prelude.{◌≡◌, not, ℤ, ◌+ℤ◌, ◌*ℤ◌};
-ghost use Rattle.expression.specs.Expression.{is_small};
 ghost use Rattle.integer.specs.Exact.{sign_of};
 ghost use Rattle.words.specs.Saturated.{saturate};
 
 // The largest magnitude of a number within the limits.
-const LIMIT: i64 = 4611686018427387904;
+const LIMIT: u64 = 1 << 62;
 
 // What stands for a number past the limits.
 const OVER: i64 = 4611686018427387905;
@@ -14,55 +13,28 @@ const OVER: i64 = 4611686018427387905;
 pub fn saturated(s: i64) -> i64
     ensures { result ≡ saturate s }
 {
-    if s < -LIMIT {
-        OVER
-    } else if LIMIT < s {
-        OVER
-    } else {
-        s
-    }
+    if expression::is_small(s) { s } else { OVER }
 }
 
 // a + b, or OVER where it passes the limit.
 pub fn add(a: i64, b: i64) -> i64
     ensures { result ≡ saturate (a +ℤ b) }
 {
-    if 0 < a {
-        if LIMIT - a < b {
-            OVER
-        } else {
-            saturated(a + b)
-        }
-    } else {
-        if b < -LIMIT - a {
-            OVER
-        } else {
-            saturated(a + b)
-        }
-    }
+    integer::exact_add(a, b).unwrap_or(OVER)
 }
 
 // a * b, or OVER where it passes the limit.
 pub fn times(a: i64, b: i64) -> i64
     ensures { result ≡ saturate (a *ℤ b) }
 {
-    let x = integer::magnitude(a);
-    let y = integer::magnitude(b);
-    if x == 0 {
-        return 0;
-    }
-    if 4611686018427387904 / x < y {
-        return OVER;
-    }
-    let neg = (a < 0) != (b < 0);
-    integer::with_sign(neg, x * y)
+    integer::exact_mul(a, b).unwrap_or(OVER)
 }
 
 // The number of magnitude m, below 0 where neg, or OVER where it passes the limit.
 pub fn with_magnitude(neg: bool, m: u64) -> i64
     ensures { result ≡ saturate (sign_of neg m) }
 {
-    if 4611686018427387904 < m {
+    if LIMIT < m {
         return OVER;
     }
     integer::with_sign(neg, m)
@@ -72,10 +44,10 @@ pub fn with_magnitude(neg: bool, m: u64) -> i64
 pub fn add_alike(neg: bool, m: u64, f: u64) -> i64
     ensures { result ≡ saturate (sign_of neg m +ℤ sign_of neg f) }
 {
-    if 4611686018427387904 < m {
+    if LIMIT < m {
         return OVER;
     }
-    if 4611686018427387904 - m < f {
+    if LIMIT - m < f {
         return OVER;
     }
     with_magnitude(neg, m + f)
@@ -101,7 +73,7 @@ pub fn multiply_add(k: i64, c: i64, e: i64) -> i64
     if x == 0 {
         return saturated(e);
     }
-    if 18446744073709551615 / x < y {
+    if u64::MAX / x < y {
         return OVER;
     }
     let neg = (k < 0) != (c < 0);
@@ -109,17 +81,4 @@ pub fn multiply_add(k: i64, c: i64, e: i64) -> i64
         return add_alike(neg, x * y, f);
     }
     add_opposed(neg, x * y, f)
-}
-
-// Whether z is within the limit.
-pub fn within(z: i64) -> bool
-    ensures { result ≡ is_small z }
-{
-    if z < -LIMIT {
-        false
-    } else if LIMIT < z {
-        false
-    } else {
-        true
-    }
 }

@@ -32,7 +32,7 @@ pub fn forward(w: &[i64], p: usize, k: usize) -> usize
 pub fn back(q: usize, k: usize) -> usize
     ensures { result ≡ q - k }
 {
-    if k < q { q - k } else { 0 }
+    q.saturating_sub(k)
 }
 
 // Past n terms.

@@ -10,45 +10,22 @@ pub fn reckon_two(c: i64, x: i64, y: i64, lo: i64, hi: i64) -> Reckoned
 {
     let l = numbers::add(lo, x);
     let h = numbers::add(hi, y);
-    if !numbers::within(c) {
+    if expression::is_small(c)
+        && expression::is_small(x)
+        && expression::is_small(y)
+        && expression::is_small(l)
+        && expression::is_small(h)
+    {
         return Reckoned {
-            ok: false,
-            lo: 0,
-            hi: 0,
-        };
-    }
-    if !numbers::within(x) {
-        return Reckoned {
-            ok: false,
-            lo: 0,
-            hi: 0,
-        };
-    }
-    if !numbers::within(y) {
-        return Reckoned {
-            ok: false,
-            lo: 0,
-            hi: 0,
-        };
-    }
-    if !numbers::within(l) {
-        return Reckoned {
-            ok: false,
-            lo: 0,
-            hi: 0,
-        };
-    }
-    if !numbers::within(h) {
-        return Reckoned {
-            ok: false,
-            lo: 0,
-            hi: 0,
+            ok: true,
+            lo: l,
+            hi: h,
         };
     }
     Reckoned {
-        ok: true,
-        lo: l,
-        hi: h,
+        ok: false,
+        lo: 0,
+        hi: 0,
     }
 }
 

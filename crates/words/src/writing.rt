@@ -2,8 +2,6 @@
 ghost use Rattle.std.specs.Prelude.{[], ◌∷◌, ◌-◌, ◌≤◌, length, drop, take};
 ghost use Rattle.words.specs.Promises.{Puts};
 
-use super::places;
-
 // Writes v at `at`, if there is room.
 pub fn put(out: &mut [i64], at: usize, v: i64) -> usize
     requires { at ≤ length out.old }
@@ -22,11 +20,9 @@ pub fn copy(w: &[i64], p: usize, q: usize, out: &mut [i64], at: usize) -> usize
     requires { (p ≤ q) × ((q ≤ length w.now) × (at ≤ length out.old)) }
     ensures { Puts out.old out.new at result (take (q - p) (drop p w.now)) }
 {
-    let mut i = p;
     let mut e = at;
-    while i < q {
-        e = put(out, e, places::word(w, i));
-        i += 1;
+    for v in &w[p..q] {
+        e = put(out, e, *v);
     }
     e
 }

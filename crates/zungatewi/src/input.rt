@@ -1,112 +1,78 @@
 // The input: pieces of it, and the lines in them.
+ghost use Rattle.std.specs.Prelude.{◌≤◌};
+
 use crate::request::respond;
-use reading::byte_at;
 use std::io;
 use std::io::{Read, Write};
-use writing::{error, flush};
 
-// The longest line that is read as a request. The line's buffer has a place more.
-const LONGEST: usize = 65535;
+// The places for a line, one more than the longest that is read as a request has.
+const PLACES: usize = 65536;
 
-// What is held of the present line: its bytes as far as the buffer has room, and whether all of
-// its bytes are spaces.
+// What is held of the present line: its bytes as far as there is room, and whether all of its bytes are spaces.
 #[derive(Clone, Copy)]
-pub struct Line {
-    pub length: usize,
-    pub blank: bool,
+struct Held {
+    text: [u8; PLACES],
+    length: usize,
+    is_blank: bool,
+    ghost within: { length ≤ 65536 },
 }
 
-// What a read leaves: the line that it ends in, and whether there was any input.
-#[derive(Clone, Copy)]
-pub struct Turn {
-    pub line: Line,
-    pub more: bool,
-}
-
-fn empty_line() -> Line {
-    Line {
-        length: 0,
-        blank: true,
-    }
-}
-
-fn with_byte(text: &mut [u8], line: Line, byte: u8) -> Line {
-    let at = line.length;
-    let blank = line.blank && byte == b' ';
-    if at < text.len() {
-        text[at] = byte;
-        return Line {
-            length: at + 1,
-            blank,
-        };
-    }
-    Line { length: at, blank }
-}
-
-// The answer to a line of that length, or an error where it is too long.
-fn answer_line<W: Write>(text: &[u8], length: usize, out: &mut W) -> io::Result<()> {
-    if length <= LONGEST {
-        if length <= text.len() {
-            return respond(&text[0..length], out);
+impl Held {
+    fn new() -> Held {
+        Held {
+            text: [0; PLACES],
+            length: 0,
+            is_blank: true,
         }
     }
-    error(out, LONGEST)
-}
 
-// Answers the line that is held, by a block that an empty line ends. A blank line and a comment
-// have no answer.
-fn end_line<W: Write>(text: &[u8], line: Line, out: &mut W) -> io::Result<()> {
-    if line.blank || byte_at(text, 0) == b'#' {
-        return Ok(());
+    // Keeps a byte of the line.
+    fn keep(&mut self, byte: u8) {
+        self.is_blank = self.is_blank && byte == b' ';
+        if self.length < PLACES {
+            self.text[self.length] = byte;
+            self.length += 1;
+        }
     }
-    answer_line(text, line.length, out)?;
-    writing::text(out, b"\n\n")
-}
 
-// One byte of the input: it is kept, or it ends the line.
-fn feed_byte<W: Write>(byte: u8, text: &mut [u8], line: Line, out: &mut W) -> io::Result<Line> {
-    if byte == b'\n' {
-        end_line(text, line, out)?;
-        return Ok(empty_line());
+    // Answers the line, by a block that an empty line ends, and starts the next one. A blank line and a comment have no
+    // answer.
+    fn end<W: Write>(&mut self, out: &mut W) -> io::Result<()> {
+        let line = &self.text[..self.length];
+        if !self.is_blank && !line.starts_with(b"#") {
+            respond(line, out)?;
+            writing::text(out, b"\n\n")?;
+        }
+        self.length = 0;
+        self.is_blank = true;
+        Ok(())
     }
-    Ok(with_byte(text, line, byte))
-}
 
-fn feed<W: Write>(piece: &[u8], text: &mut [u8], line: Line, out: &mut W) -> io::Result<Line> {
-    let mut now = line;
-    for byte in piece {
-        now = feed_byte(*byte, text, now, out)?;
+    // Takes the next bytes of the input: each is kept, or it ends the line.
+    fn take<W: Write>(&mut self, piece: &[u8], out: &mut W) -> io::Result<()> {
+        for byte in piece {
+            match byte {
+                b'\n' => self.end(out)?,
+                _ => self.keep(*byte),
+            }
+        }
+        Ok(())
     }
-    Ok(now)
 }
 
-// Reads once, answers the lines that end in what came, and writes the answers out.
-fn take_turn<R: Read, W: Write>(
-    input: &mut R,
-    text: &mut [u8],
-    line: Line,
-    out: &mut W,
-) -> io::Result<Turn> {
-    let mut chunk = [0u8; 65536];
-    let n = input.read(&mut chunk)?;
-    if n == 0 {
-        return Ok(Turn { line, more: false });
-    }
-    let line = feed(&chunk[0..n], text, line, out)?;
-    flush(out)?;
-    Ok(Turn { line, more: true })
-}
-
-// Nothing says that the input ends, so the turns are counted, up to a number that no run reaches.
-pub fn serve<R: Read, W: Write>(input: &mut R, text: &mut [u8], out: &mut W) -> io::Result<()> {
-    let mut line = empty_line();
+// Answers the lines as they come. Nothing says that the input ends, so the turns are counted, up to a number that no run
+// reaches.
+pub fn serve<R: Read, W: Write>(input: &mut R, out: &mut W) -> io::Result<()> {
+    let mut held = Held::new();
+    let mut chunk = [0; PLACES];
     for _ in 0..u64::MAX {
-        let turn = take_turn(input, text, line, out)?;
-        line = turn.line;
-        if !turn.more {
+        let count = input.read(&mut chunk)?;
+        if count == 0 {
             break;
         }
+        held.take(&chunk[..count], out)?;
+        out.flush()?;
     }
-    end_line(text, line, out)?;
-    flush(out)
+    held.end(out)?;
+    out.flush()
 }

@@ -8,7 +8,6 @@ use std::io;
 use writing::Output;
 
 fn main(rt: HostRuntime) -> io::Result<()> {
-    let mut line = [0u8; 65536];
     let mut out = Output::new(rt.stdout());
-    input::serve(&mut rt.stdin(), &mut line, &mut out)
+    input::serve(&mut rt.stdin(), &mut out)
 }

@@ -1,4 +1,4 @@
--- `route::best_route` meets its contract: what `load` asks of the records that are read.
+-- `route::best_route` meets its contract. Assumes nothing.
 use Rattle.route.proofs.best_route.Goals as goal
 
 pub load-loaded-requires : goal.load-loaded-requires

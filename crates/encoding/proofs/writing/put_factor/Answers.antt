@@ -13,8 +13,8 @@ returns-then-factor-eq1 c =
     let e = sym (to_z-of_z c.ranges.factor) ∙ ap (to_z w64) c.if-factor-eq1.true in
     rw (factor-one c.args.factor e) (nothing _ _ _ c.requires.most)
 
-pub returns : goal.returns
-returns c =
+pub returns-else-factor-eq1 : goal.returns-else-factor-eq1
+returns-else-factor-eq1 c =
     let z = to_z-of_z c.ranges.factor in
     rw (factor-other c.args.factor (λ e. c.if-factor-eq1.false (ap (of_z w64) e)))
     (one (N.One (Product c.args.factor)) (rw z at c.put_node.ensures))

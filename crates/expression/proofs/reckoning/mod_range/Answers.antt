@@ -21,12 +21,12 @@ returns-then-p-q c =
     let fp = to_z-of_z {w = w64} (sfits_of c.floor_div-p.type_inv) in
     let fq = to_z-of_z {w = w64} (sfits_of c.floor_div-q.type_inv) in
     let e = sym p ∙ sym fp ∙ ap (to_z w64) c.if-p-q.true ∙ fq ∙ q in
-    let a = rw (to_z-of_z c.ranges.lo, to_z-of_z c.ranges.c) at c.floor_mod-a.ensures in
-    let b = rw (to_z-of_z c.ranges.hi, to_z-of_z c.ranges.c) at c.floor_mod-b.ensures in
-    rw (to_z-of_z (sfits_of c.floor_mod-a.type_inv), to_z-of_z (sfits_of c.floor_mod-b.type_inv), a, b) (mod_same c.args.lo c.args.hi (nat_abs c.args.c) (abs-above-0 _ c.requires.0.0) c.requires.0.1 e)
+    let a = rw (to_z-of_z c.ranges.lo, to_z-of_z c.ranges.c) at c.floor_mod.ensures in
+    let b = rw (to_z-of_z c.ranges.hi, to_z-of_z c.ranges.c) at c.floor_mod-then-p-q.ensures in
+    rw (to_z-of_z (sfits_of c.floor_mod.type_inv), to_z-of_z (sfits_of c.floor_mod-then-p-q.type_inv), a, b) (mod_same c.args.lo c.args.hi (nat_abs c.args.c) (abs-above-0 _ c.requires.0.0) c.requires.0.1 e)
 
-pub returns : goal.returns
-returns c =
+pub returns-else-p-q : goal.returns-else-p-q
+returns-else-p-q c =
     let p = rw (to_z-of_z c.ranges.lo, to_z-of_z c.ranges.c) at c.floor_div-p.ensures in
     let q = rw (to_z-of_z c.ranges.hi, to_z-of_z c.ranges.c) at c.floor_div-q.ensures in
     let h : nat_abs c.args.c ≤ max_divisor = c.requires.0.1 in

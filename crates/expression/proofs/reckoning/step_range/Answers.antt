@@ -1,123 +1,79 @@
 -- `expression::reckoning::step_range` meets its contract. Assumes nothing.
-use borrow.Author.Rules.{rules, sfits_of}
-use mathlib.Core.Path.{◌≡◌, sym, ◌∙◌}
+use mathlib.Core.Path.{◌∙◌}
+use Prim.Native.Nat.{◌+◌}
 use native.Mathlib.Omega.{arith}
 use mir.Facts.{to_z-of_z}
-use mir.Syntax.{w64}
-use mir.Val.{to_z, of_z}
 use Rattle.expression.proofs.Placed.{placed-is}
-use Rattle.expression.proofs.Pairs.{stacks-set, small_of, leaf_r, one_r-room, one_r, one_r-over, sum_r-room, sum_r, sum_r-over}
+use Rattle.expression.proofs.Tests.{small-fits}
+use Rattle.expression.proofs.Pairs.{stacks-set, small_of, leaf_r, one_r, one_r-over, sum_r, sum_r-over, room-one, room-sum}
 use Rattle.expression.proofs.reckoning.step_range.Goals as goal
+
+pub bounds-los-top : goal.bounds-los-top
+bounds-los-top c = room-one c.requires c.in-One.is
+
+pub bounds-his-top : goal.bounds-his-top
+bounds-his-top c = room-one c.requires c.in-One.is
+
+pub bounds-los-top-in-One : goal.bounds-los-top-in-One
+bounds-los-top-in-One c = room-one c.requires c.in-One.is
+
+pub bounds-his-top-in-One : goal.bounds-his-top-in-One
+bounds-his-top-in-One c = room-one c.requires c.in-One.is
+
+pub bounds-los-at-in-Sum : goal.bounds-los-at-in-Sum
+bounds-los-at-in-Sum c = room-sum c.requires c.in-Sum.is
+
+pub bounds-his-at-in-Sum : goal.bounds-his-at-in-Sum
+bounds-his-at-in-Sum c = room-sum c.requires c.in-Sum.is
+
+pub bounds-los-at-in-Sum-2 : goal.bounds-los-at-in-Sum-2
+bounds-los-at-in-Sum-2 c = room-sum c.requires c.in-Sum.is
+
+pub bounds-his-at-in-Sum-2 : goal.bounds-his-at-in-Sum-2
+bounds-his-at-in-Sum-2 c = room-sum c.requires c.in-Sum.is
+
+pub bounds-los-top-in-Sum : goal.bounds-los-top-in-Sum
+bounds-los-top-in-Sum c = omega (arith, room-sum c.requires c.in-Sum.is)
+
+pub bounds-his-top-in-Sum : goal.bounds-his-top-in-Sum
+bounds-his-top-in-Sum c = omega (arith, room-sum c.requires c.in-Sum.is)
 
 pub returns-in-Leaf : goal.returns-in-Leaf
 returns-in-Leaf c =
     let e = c.in-Leaf.is in
     let x = c.in-Leaf.leaf in
-    let p = c.leaf_value-a.ensures ∙ placed-is c.args.lower.now x c.requires.long-lower in
-    let q = c.leaf_value-b.ensures ∙ placed-is c.args.upper.now x c.requires.long-upper in
+    let p = c.leaf_value.ensures ∙ placed-is c.args.lower.now x c.requires.long-lower in
+    let q = c.leaf_value-in-Leaf.ensures ∙ placed-is c.args.upper.now x c.requires.long-upper in
     let m = rw (← p) at (rw e at c.requires.small-lower) in
     let o = rw (← q) at (rw e at c.requires.small-upper) in
-    rw (to_z-of_z (sfits_of c.leaf_value-a.type_inv), to_z-of_z (sfits_of c.leaf_value-b.type_inv))
+    rw (to_z-of_z (small-fits _ m), to_z-of_z (small-fits _ o))
     (record { near = ((omega arith, omega arith), stacks-set _ _ _ _ _ c.requires.stacks m o); his_after = rw e (leaf_r c.args.lower.now c.args.upper.now c.args.los.now c.args.his.now c.args.top c.requires.stacks x _ _ p q m o (omega arith) (omega arith)) })
 
-pub bounds-los-top : goal.bounds-los-top
-bounds-los-top c =
+pub returns-in_err-lo-in-One-clause-his_after : goal.returns-in_err-lo-in-One-clause-his_after
+returns-in_err-lo-in-One-clause-his_after c =
     let e = c.in-One.is in
-    let r = rw e at c.requires.fed in
-    let i = one_r-room c.args.lower.now c.args.upper.now c.args.los.now c.args.his.now c.args.top c.requires.stacks c.in-One.one r in i
+    let q = rw (to_z-of_z (small-fits _ (c.requires.stacks.small-lows c.args.top)), to_z-of_z (small-fits _ (c.requires.stacks.small-highs c.args.top))) at c.in_err-lo-in-One.ensures in
+    rw (c.from_residual.ensures, e) (one_r-over c.args.lower.now c.args.upper.now c.args.los.now c.args.his.now c.args.top c.requires.stacks c.in-One.one (room-one c.requires e) q)
 
-pub bounds-his-top : goal.bounds-his-top
-bounds-his-top c =
+pub returns-in_ok-lo-in-One : goal.returns-in_ok-lo-in-One
+returns-in_ok-lo-in-One c =
     let e = c.in-One.is in
-    let r = rw e at c.requires.fed in
-    let i = one_r-room c.args.lower.now c.args.upper.now c.args.los.now c.args.his.now c.args.top c.requires.stacks c.in-One.one r in i
-
-pub bounds-los-top-in-Kept : goal.bounds-los-top-in-Kept
-bounds-los-top-in-Kept c =
-    let e = c.in-One.is in
-    let r = rw e at c.requires.fed in
-    let i = one_r-room c.args.lower.now c.args.upper.now c.args.los.now c.args.his.now c.args.top c.requires.stacks c.in-One.one r in i
-
-pub bounds-his-top-in-Kept : goal.bounds-his-top-in-Kept
-bounds-his-top-in-Kept c =
-    let e = c.in-One.is in
-    let r = rw e at c.requires.fed in
-    let i = one_r-room c.args.lower.now c.args.upper.now c.args.los.now c.args.his.now c.args.top c.requires.stacks c.in-One.one r in i
-
-pub returns-in-Kept : goal.returns-in-Kept
-returns-in-Kept c =
-    let e = c.in-One.is in
-    let r = rw e at c.requires.fed in
-    let i = one_r-room c.args.lower.now c.args.upper.now c.args.los.now c.args.his.now c.args.top c.requires.stacks c.in-One.one r in
-    let v = rw (to_z-of_z (sfits_of c.lo-1.given), to_z-of_z (sfits_of c.hi-1.given)) at c.one_range.ensures in
-    let q = sym c.in-Kept.is ∙ v in
+    let q = rw (to_z-of_z (small-fits _ (c.requires.stacks.small-lows c.args.top)), to_z-of_z (small-fits _ (c.requires.stacks.small-highs c.args.top))) at c.in_ok-lo-in-One.ensures in
     let m = small_of _ _ _ q in
-    let ka : to_z w64 (of_z w64 c.in-Kept.a) ≡ c.in-Kept.a = search rules in
-    let kb : to_z w64 (of_z w64 c.in-Kept.b) ≡ c.in-Kept.b = search rules in
-    rw (ka, kb)
-    (record { near = ((omega arith, omega arith), stacks-set _ _ _ _ _ c.requires.stacks m.0 m.1); his_after = rw e (one_r c.args.lower.now c.args.upper.now c.args.los.now c.args.his.now c.args.top c.requires.stacks c.in-One.one _ _ i q) })
+    rw (to_z-of_z (small-fits _ m.0), to_z-of_z (small-fits _ m.1))
+    (record { near = ((omega arith, omega arith), stacks-set _ _ _ _ _ c.requires.stacks m.0 m.1); his_after = rw e (one_r c.args.lower.now c.args.upper.now c.args.los.now c.args.his.now c.args.top c.requires.stacks c.in-One.one _ _ (room-one c.requires e) q) })
 
-pub returns-in-Passed : goal.returns-in-Passed
-returns-in-Passed c =
-    let e = c.in-One.is in
-    let r = rw e at c.requires.fed in
-    let i = one_r-room c.args.lower.now c.args.upper.now c.args.los.now c.args.his.now c.args.top c.requires.stacks c.in-One.one r in
-    let v = rw (to_z-of_z (sfits_of c.lo-1.given), to_z-of_z (sfits_of c.hi-1.given)) at c.one_range.ensures in
-    record { near = (tt, c.requires.stacks); his_after = rw e (one_r-over c.args.lower.now c.args.upper.now c.args.los.now c.args.his.now c.args.top c.requires.stacks c.in-One.one i (sym c.in-Passed.is ∙ v)) }
-
-pub bounds-los-top-in-Sum : goal.bounds-los-top-in-Sum
-bounds-los-top-in-Sum c =
+pub returns-in_err-lo-in-Sum-clause-his_after : goal.returns-in_err-lo-in-Sum-clause-his_after
+returns-in_err-lo-in-Sum-clause-his_after c =
     let e = c.in-Sum.is in
-    let r = rw e at c.requires.fed in
-    let i = sum_r-room c.args.lower.now c.args.upper.now c.args.los.now c.args.his.now c.args.top c.requires.stacks r in omega arith
+    let q = rw (to_z-of_z (small-fits _ (c.requires.stacks.small-lows (c.args.top + 1))), to_z-of_z (small-fits _ (c.requires.stacks.small-highs (c.args.top + 1))), to_z-of_z (small-fits _ (c.requires.stacks.small-lows c.args.top)), to_z-of_z (small-fits _ (c.requires.stacks.small-highs c.args.top))) at c.in_err-lo-in-Sum.ensures in
+    rw (c.from_residual-in_err-lo-in-Sum.ensures, e) (sum_r-over c.args.lower.now c.args.upper.now c.args.los.now c.args.his.now c.args.top c.requires.stacks (room-sum c.requires e) q)
 
-pub bounds-his-top-in-Sum : goal.bounds-his-top-in-Sum
-bounds-his-top-in-Sum c =
+pub returns-in_ok-lo-in-Sum : goal.returns-in_ok-lo-in-Sum
+returns-in_ok-lo-in-Sum c =
     let e = c.in-Sum.is in
-    let r = rw e at c.requires.fed in
-    let i = sum_r-room c.args.lower.now c.args.upper.now c.args.los.now c.args.his.now c.args.top c.requires.stacks r in omega arith
-
-pub bounds-los-at-in-Sum : goal.bounds-los-at-in-Sum
-bounds-los-at-in-Sum c =
-    let e = c.in-Sum.is in
-    let r = rw e at c.requires.fed in
-    let i = sum_r-room c.args.lower.now c.args.upper.now c.args.los.now c.args.his.now c.args.top c.requires.stacks r in omega arith
-
-pub bounds-his-at-in-Sum : goal.bounds-his-at-in-Sum
-bounds-his-at-in-Sum c =
-    let e = c.in-Sum.is in
-    let r = rw e at c.requires.fed in
-    let i = sum_r-room c.args.lower.now c.args.upper.now c.args.los.now c.args.his.now c.args.top c.requires.stacks r in omega arith
-
-pub bounds-los-at-in-Kept-sum_range : goal.bounds-los-at-in-Kept-sum_range
-bounds-los-at-in-Kept-sum_range c =
-    let e = c.in-Sum.is in
-    let r = rw e at c.requires.fed in
-    let i = sum_r-room c.args.lower.now c.args.upper.now c.args.los.now c.args.his.now c.args.top c.requires.stacks r in omega arith
-
-pub bounds-his-at-in-Kept-sum_range : goal.bounds-his-at-in-Kept-sum_range
-bounds-his-at-in-Kept-sum_range c =
-    let e = c.in-Sum.is in
-    let r = rw e at c.requires.fed in
-    let i = sum_r-room c.args.lower.now c.args.upper.now c.args.los.now c.args.his.now c.args.top c.requires.stacks r in omega arith
-
-pub returns-in-Kept-sum_range : goal.returns-in-Kept-sum_range
-returns-in-Kept-sum_range c =
-    let e = c.in-Sum.is in
-    let r = rw e at c.requires.fed in
-    let i = sum_r-room c.args.lower.now c.args.upper.now c.args.los.now c.args.his.now c.args.top c.requires.stacks r in
-    let v = rw (to_z-of_z (sfits_of c.alo-1.given), to_z-of_z (sfits_of c.ahi-1.given), to_z-of_z (sfits_of c.blo-1.given), to_z-of_z (sfits_of c.bhi-1.given)) at c.sum_range.ensures in
-    let q = sym c.in-Kept-sum_range.is ∙ v in
+    let i = room-sum c.requires e in
+    let q = rw (to_z-of_z (small-fits _ (c.requires.stacks.small-lows (c.args.top + 1))), to_z-of_z (small-fits _ (c.requires.stacks.small-highs (c.args.top + 1))), to_z-of_z (small-fits _ (c.requires.stacks.small-lows c.args.top)), to_z-of_z (small-fits _ (c.requires.stacks.small-highs c.args.top))) at c.in_ok-lo-in-Sum.ensures in
     let m = small_of _ _ _ q in
-    let ka : to_z w64 (of_z w64 c.in-Kept-sum_range.a) ≡ c.in-Kept-sum_range.a = search rules in
-    let kb : to_z w64 (of_z w64 c.in-Kept-sum_range.b) ≡ c.in-Kept-sum_range.b = search rules in
-    rw (ka, kb)
+    rw (to_z-of_z (small-fits _ m.0), to_z-of_z (small-fits _ m.1))
     (record { near = ((omega arith, omega arith), stacks-set _ _ _ _ _ c.requires.stacks m.0 m.1); his_after = rw e (sum_r c.args.lower.now c.args.upper.now c.args.los.now c.args.his.now c.args.top c.requires.stacks _ _ i q) })
-
-pub returns-in-Passed-sum_range : goal.returns-in-Passed-sum_range
-returns-in-Passed-sum_range c =
-    let e = c.in-Sum.is in
-    let r = rw e at c.requires.fed in
-    let i = sum_r-room c.args.lower.now c.args.upper.now c.args.los.now c.args.his.now c.args.top c.requires.stacks r in
-    let v = rw (to_z-of_z (sfits_of c.alo-1.given), to_z-of_z (sfits_of c.ahi-1.given), to_z-of_z (sfits_of c.blo-1.given), to_z-of_z (sfits_of c.bhi-1.given)) at c.sum_range.ensures in
-    record { near = (tt, c.requires.stacks); his_after = rw e (sum_r-over c.args.lower.now c.args.upper.now c.args.los.now c.args.his.now c.args.top c.requires.stacks i (sym c.in-Passed-sum_range.is ∙ v)) }

@@ -1,12 +1,12 @@
 -- `expression::values::value_of` meets its contract. Assumes nothing.
-use borrow.Author.Rules.{sfits_of}
-use mathlib.Core.Path.{refl, sym, ◌∙◌, subst}
-use Prim.Native.Nat.{◌+◌, ◌<◌}
+use borrow.Author.Rules.{rules}
+use mathlib.Core.Path.{◌≡◌, sym, ◌∙◌, subst}
+use Prim.Native.Nat.{◌+◌}
 use native.Mathlib.Omega.{arith}
 use lib.IntN.{pos}
-use lib.ListN.{length, drop}
-use mir.Facts.{to_z-of_z}
+use lib.ListN.{length, get_or, drop}
 use mir.Syntax.{w64}
+use mir.Val.{to_z, of_z}
 use Rattle.expression.specs.Machine.{Whole}
 use Rattle.expression.specs.Value.{value_alg}
 use Rattle.expression.proofs.Reading.{node-sound}
@@ -16,35 +16,42 @@ use Rattle.expression.proofs.values.value_of.Goals as goal
 pub step_value-top-requires : goal.step_value-top-requires
 step_value-top-requires c =
     let a = c.args in
-    let h : c.loop-i.i < a.from + a.count = omega arith in
-    let e = rw (to_z-of_z (sfits_of c.node_of-arg-1.given)) at c.node_of-node.ensures in
+    let v : to_z w64 (of_z w64 (get_or a.values.now c.loop-i.i (pos 0))) ≡ get_or a.values.now c.loop-i.i (pos 0) = search rules in
+    let e = rw v at c.node_of-node.ensures in
     rw e
     (record {
       sound = node-sound _ _ (length a.ds.now) (length a.ss.now) _ _ (λ n u v. u) (λ n u v. u);
       room = omega arith;
       within = omega arith;
-      long = c.loop-i.invariant.1.1.1.1.1.0;
-      ready = loop-ready (value_alg a.ds.now a.ss.now) (length a.ds.now) (length a.ss.now) a.kinds.now a.values.now c.loop-i.i (a.from + a.count) (drop c.loop-i.top c.loop-i.items) _ c.loop-i.invariant.1.1.1.1.1.1 h c.requires.whole;
+      long = c.loop-i.invariant.4;
+      ready = loop-ready (value_alg a.ds.now a.ss.now) (length a.ds.now) (length a.ss.now) a.kinds.now a.values.now c.loop-i.i (a.from + a.count) (drop c.loop-i.top c.loop-i.items) _ c.loop-i.invariant.5 (omega arith) c.requires.whole;
     })
 
 pub loop-i-preserved : goal.loop-i-preserved
 loop-i-preserved c =
     let a = c.args in
-    let h : c.loop-i.i < a.from + a.count = omega arith in
-    let e = rw (to_z-of_z (sfits_of c.node_of-arg-1.given)) at c.node_of-node.ensures in
-    let q = rw e at c.step_value-top.ensures.after in
-    (refl, (omega arith, (omega arith, (omega arith, (omega arith, (c.step_value-top.ensures.upper_bound.1.1, loop-turn (value_alg a.ds.now a.ss.now) (length a.ds.now) (length a.ss.now) a.kinds.now a.values.now c.loop-i.i (a.from + a.count) (drop c.loop-i.top c.loop-i.items) _ c.loop-i.invariant.1.1.1.1.1.1 h _ q))))))
+    let v : to_z w64 (of_z w64 (get_or a.values.now c.loop-i.i (pos 0))) ≡ get_or a.values.now c.loop-i.i (pos 0) = search rules in
+    let e = rw v at c.node_of-node.ensures in
+    let q = rw e at c.step_value-top.ensures.after in (
+      omega arith,
+      omega arith,
+      omega arith,
+      omega arith,
+      c.step_value-top.ensures.upper_bound.1.1,
+      loop-turn (value_alg a.ds.now a.ss.now) (length a.ds.now) (length a.ss.now) a.kinds.now a.values.now c.loop-i.i (a.from + a.count) (drop c.loop-i.top c.loop-i.items) _ c.loop-i.invariant.5 (omega arith) _ q,
+    )
 
 pub bounds-items-top : goal.bounds-items-top
 bounds-items-top c =
     let a = c.args in
-    let o = loop-last (value_alg a.ds.now a.ss.now) (length a.ds.now) (length a.ss.now) a.kinds.now a.values.now c.loop-i.i (a.from + a.count) (drop c.loop-i.top c.loop-i.items) _ c.loop-i.invariant.1.1.1.1.1.1 c.loop-i-test.false in
-    let n = c.loop-i.invariant.1.1.1.1.1.0 in
+    let o = loop-last (value_alg a.ds.now a.ss.now) (length a.ds.now) (length a.ss.now) a.kinds.now a.values.now c.loop-i.i (a.from + a.count) (drop c.loop-i.top c.loop-i.items) _ c.loop-i.invariant.5 (omega arith) in
+    let n = c.loop-i.invariant.4 in
     omega (arith, (one_left c.loop-i.items c.loop-i.top (pos 0) (omega arith) (subst Whole (sym o) c.requires.whole)).0)
 
 pub returns : goal.returns
 returns c =
     let a = c.args in
-    let o = loop-last (value_alg a.ds.now a.ss.now) (length a.ds.now) (length a.ss.now) a.kinds.now a.values.now c.loop-i.i (a.from + a.count) (drop c.loop-i.top c.loop-i.items) _ c.loop-i.invariant.1.1.1.1.1.1 c.loop-i-test.false in
-    let n = c.loop-i.invariant.1.1.1.1.1.0 in
-    rw (← o) (to_z-of_z {w = w64} (sfits_of c.result-1.given) ∙ (one_left c.loop-i.items c.loop-i.top (pos 0) (omega arith) (subst Whole (sym o) c.requires.whole)).1)
+    let o = loop-last (value_alg a.ds.now a.ss.now) (length a.ds.now) (length a.ss.now) a.kinds.now a.values.now c.loop-i.i (a.from + a.count) (drop c.loop-i.top c.loop-i.items) _ c.loop-i.invariant.5 (omega arith) in
+    let n = c.loop-i.invariant.4 in
+    let v : to_z w64 (of_z w64 (get_or c.loop-i.items c.loop-i.top (pos 0))) ≡ get_or c.loop-i.items c.loop-i.top (pos 0) = search rules in
+    rw (← o) (v ∙ (one_left c.loop-i.items c.loop-i.top (pos 0) (omega arith) (subst Whole (sym o) c.requires.whole)).1)

@@ -1,4 +1,5 @@
--- `fold::parts::fold_constraint` meets its contract. Assumes nothing.
+-- What the search leaves of `fold::parts::fold_constraint`. Assumes nothing.
+use borrow.Author.Tests.{not-false}
 use Rattle.std.proofs.Common.{arith}
 use Rattle.indexing.proofs.Formed.{counts}
 use Rattle.fold.proofs.Runs.{constraint-run}
@@ -17,8 +18,9 @@ pub is_gone-requires : goal.is_gone-requires
 is_gone-requires c = omega (arith, c.requires.1, (constraint-run c.args.m c.requires.0.formed c.args.k c.requires.1).1)
 
 pub returns-then-is_gone : goal.returns-then-is_gone
-returns-then-is_gone c = constraint-gone c.args.m c.args.k _ _ c.run_sum-s.ensures c.requires.3 c.if-not-small.false _ c.is_gone.ensures c.if-is_gone.true
+returns-then-is_gone c =
+    constraint-gone c.args.m c.args.k _ _ c.run_sum-s.ensures c.requires.3 (not-false _ c.if-not-s.false) _ c.is_gone.ensures c.if-is_gone.true
 
 pub returns : goal.returns
 returns c =
-    constraint-stays c.args.m c.args.k _ _ c.run_sum-s.ensures c.requires.3 c.if-not-small.false _ c.is_gone.ensures c.if-is_gone.false c.emit_sum-end.ensures
+    constraint-stays c.args.m c.args.k _ _ c.run_sum-s.ensures c.requires.3 (not-false _ c.if-not-s.false) _ c.is_gone.ensures c.if-is_gone.false c.emit_sum-end.ensures

@@ -1,5 +1,5 @@
 -- `fold::parts::fold_constraints` meets its contract. Assumes nothing.
-use Rattle.std.proofs.Common.{◌≡◌, ◌-◌, length}
+use Rattle.std.proofs.Common.{◌≡◌, length}
 use Rattle.fold.proofs.Constraints.{Keeping}
 use Rattle.fold.proofs.parts.fold_constraints.Given as goal
 
@@ -9,6 +9,3 @@ invariant-loop-k l =
     × (length l.words ≡ length l.initial.words) × (length l.scratch ≡ length l.initial.scratch) × (length l.counts ≡ length l.initial.counts)
     × (length l.lower ≡ length l.initial.lower) × (length l.upper ≡ length l.initial.upper) × (length l.kinds ≡ length l.initial.kinds)
     × (length l.values ≡ length l.initial.values)
-
-abbrev pub decreases-loop-k : goal.decreases-loop-k
-decreases-loop-k l = l.constraints - l.k

@@ -9,8 +9,8 @@ use Rattle.fold.proofs.parts.fold_results.Goals as goal
 pub loop-i-init : goal.loop-i-init
 loop-i-init c = (folding-start c.args.m c.requires.2, refl, refl, refl, refl, refl)
 
-pub fold_run-r-requires : goal.fold_run-r-requires
-fold_run-r-requires c = (
+pub fold_run-requires : goal.fold_run-requires
+fold_run-requires c = (
   c.requires.0,
   (result-run c.args.m c.requires.0.formed c.loop-i.i c.loop-i-test.true).0,
   record {
@@ -22,8 +22,8 @@ fold_run-r-requires c = (
   holds-room c.loop-i.invariant.0.holds,
 )
 
-pub returns-then-not-small : goal.returns-then-not-small
-returns-then-not-small c = folding-over c.args.m c.loop-i.invariant.0 c.loop-i-test.true _ c.fold_run-r.ensures c.if-not-small.true 0
+pub returns-in_err-end : goal.returns-in_err-end
+returns-in_err-end c = rw c.from_residual.ensures (folding-over c.args.m c.loop-i.invariant.0 c.loop-i-test.true c.in_err-end.ensures)
 
 pub offset_bounds-counts-i : goal.offset_bounds-counts-i
 offset_bounds-counts-i c =
@@ -37,10 +37,10 @@ bounds-counts-i c =
 
 pub loop-i-preserved : goal.loop-i-preserved
 loop-i-preserved c = (
-  rw add-one (folding-next c.args.m c.loop-i.invariant.0 c.loop-i-test.true _ c.fold_run-r.ensures c.if-not-small.false),
-  c.fold_run-r.auto.words ∙ c.loop-i.invariant.1,
-  c.fold_run-r.auto.scratch ∙ c.loop-i.invariant.2,
-  length-set c.loop-i.counts c.loop-i.i (c.fold_run-r.result.at - c.loop-i.at) ∙ c.loop-i.invariant.3,
-  c.fold_run-r.ensures.kept.kinds ∙ c.loop-i.invariant.4,
-  c.fold_run-r.ensures.kept.values ∙ c.loop-i.invariant.5,
+  rw add-one (folding-next c.args.m c.loop-i.invariant.0 c.loop-i-test.true c.in_ok-end.ensures),
+  c.fold_run.auto.words ∙ c.loop-i.invariant.1,
+  c.fold_run.auto.scratch ∙ c.loop-i.invariant.2,
+  length-set c.loop-i.counts c.loop-i.i (c.in_ok-end.end - c.loop-i.at) ∙ c.loop-i.invariant.3,
+  c.fold_run.auto.kinds ∙ c.loop-i.invariant.4,
+  c.fold_run.auto.values ∙ c.loop-i.invariant.5,
 )

@@ -11,4 +11,4 @@ returns-then-a-lo c =
 pub returns-else-a-lo : goal.returns-else-a-lo
 returns-else-a-lo c =
     let t = rw (to_z-of_z c.ranges.a, to_z-of_z c.ranges.lo) at c.if-a-lo.false in
-    inside-no c.args.lo c.args.hi c.args.a c.args.b t
+    rw (to_z-of_z c.ranges.a, to_z-of_z c.ranges.lo, t) (inside-no c.args.lo c.args.hi c.args.a c.args.b t)

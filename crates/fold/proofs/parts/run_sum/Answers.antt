@@ -9,25 +9,25 @@ pub overflow_add-from : goal.overflow_add-from
 overflow_add-from c =
     let long-kinds : length c.args.m.kinds ≡ max_nodes = search rules in
     let long-values : length c.args.m.values ≡ max_nodes = search rules in
-    let end : c.in-Held.from + c.in-Held.count ≤ max_nodes =
-    run_end c.args.m c.requires.0.formed c.args.i c.requires.1 _ _ c.in-Held.ensures long-kinds long-values in
+    let end : c.in-Some.from + c.in-Some.count ≤ max_nodes =
+    run_end c.args.m c.requires.0.formed c.args.i c.requires.1 _ _ c.in-Some.ensures long-kinds long-values in
     record { fits = omega arith }
 
 pub tree_sum-requires : goal.tree_sum-requires
 tree_sum-requires c =
     let long-kinds : length c.args.m.kinds ≡ max_nodes = search rules in
     let long-values : length c.args.m.values ≡ max_nodes = search rules in
-    let end : c.in-Held.from + c.in-Held.count ≤ max_nodes =
-    run_end c.args.m c.requires.0.formed c.args.i c.requires.1 _ _ c.in-Held.ensures long-kinds long-values in (
+    let end : c.in-Some.from + c.in-Some.count ≤ max_nodes =
+    run_end c.args.m c.requires.0.formed c.args.i c.requires.1 _ _ c.in-Some.ensures long-kinds long-values in (
       record { in-kinds = omega arith; in-values = omega arith },
       record { place = omega arith; few = c.requires.2.few_words; few-scratch = c.requires.2.few-scratch },
     )
 
-pub returns-in-Held : goal.returns-in-Held
-returns-in-Held c =
+pub returns-in-Some : goal.returns-in-Some
+returns-in-Some c =
     let long-kinds : length c.args.m.kinds ≡ max_nodes = search rules in
     let long-values : length c.args.m.values ≡ max_nodes = search rules in
-    run-folded c.args.m c.requires.0.formed c.args.i c.requires.1 _ _ c.in-Held.ensures long-kinds long-values _ _ _ _ _ c.requires.2 c.tree_sum.ensures
+    run-folded c.args.m c.requires.0.formed c.args.i c.requires.1 _ _ c.in-Some.ensures long-kinds long-values _ _ _ _ _ c.requires.2 c.tree_sum.ensures
 
-pub returns-in-Cut : goal.returns-in-Cut
-returns-in-Cut c = absurd (never-cut c.args.m c.args.i c.requires.0.formed c.requires.1 c.in-Cut.ensures)
+pub returns-in-None : goal.returns-in-None
+returns-in-None c = absurd (never-cut c.args.m c.args.i c.requires.0.formed c.requires.1 c.in-None.ensures)

@@ -1,4 +1,4 @@
--- `fold::whole::node_total` meets its contract. Assumes nothing.
+-- What the search leaves of `fold::whole::node_total`. Assumes nothing.
 use Rattle.std.proofs.Common.{◌≡◌, ◌+◌, arith}
 use Rattle.indexing.proofs.Formed.{never-cut}
 use Rattle.fold.specs.Ready.{map_nodes}
@@ -17,11 +17,11 @@ run_of-requires c = last-run c.args.m c.requires.formed c.if-n-eq0.false
 -- where the last run ends
 pub overflow_add-result : goal.overflow_add-result
 overflow_add-result c =
-    let end : c.in-Held.from + c.in-Held.count ≡ map_nodes c.args.m = last_end c.args.m c.requires.formed c.if-n-eq0.false _ _ c.in-Held.ensures in
+    let end : c.in-Some.from + c.in-Some.count ≡ map_nodes c.args.m = last_end c.args.m c.requires.formed c.if-n-eq0.false _ _ c.in-Some.ensures in
     record { fits = omega (arith, end, nodes-most c.args.m c.requires.formed) }
 
-pub returns-in-Held : goal.returns-in-Held
-returns-in-Held c = last_end c.args.m c.requires.formed c.if-n-eq0.false _ _ c.in-Held.ensures
+pub returns-in-Some : goal.returns-in-Some
+returns-in-Some c = last_end c.args.m c.requires.formed c.if-n-eq0.false _ _ c.in-Some.ensures
 
-pub returns-in-Cut : goal.returns-in-Cut
-returns-in-Cut c = absurd (never-cut c.args.m _ c.requires.formed (last-run c.args.m c.requires.formed c.if-n-eq0.false) c.in-Cut.ensures)
+pub returns-in-None : goal.returns-in-None
+returns-in-None c = absurd (never-cut c.args.m _ c.requires.formed (last-run c.args.m c.requires.formed c.if-n-eq0.false) c.in-None.ensures)

@@ -1,12 +1,9 @@
--- What the loops of `all_hold` keep.
+-- What the loop of `all_hold` keeps.
 use mathlib.Core.Path.{◌≡◌}
 use mathlib.Core.Bool.{true}
-use Prim.Native.Nat.{ℕ, ◌-◌, ◌<◌, ◌≤◌}
+use Prim.Native.Nat.{ℕ, ◌<◌}
 use Rattle.indexing.specs.Map.{holds_at}
 use Rattle.indexing.proofs.points.all_hold.Given as goal
 
 abbrev pub invariant-loop-k : goal.invariant-loop-k
-invariant-loop-k l = (l.k ≤ l.constraints) × ((j : ℕ) → j < l.k → holds_at l.m l.ds l.ss j ≡ true)
-
-abbrev pub decreases-loop-k : goal.decreases-loop-k
-decreases-loop-k l = l.constraints - l.k
+invariant-loop-k l = (j : ℕ) → j < l.k → holds_at l.m l.ds l.ss j ≡ true

@@ -10,16 +10,16 @@ use Rattle.indexing.proofs.points.value_at.Goals as goal
 pub value_of-requires : goal.value_of-requires
 value_of-requires c =
     let m = c.args.m in
-    let h = c.in-Held.ensures in
+    let h = c.in-Some.ensures in
     record {
       run = run-here m c.args.i _ _ h (search rules) (search rules);
       whole = subst Whole (sym (value-here m c.args.ds.now c.args.ss.now c.requires.0 c.args.i _ _ c.requires.1 h)) tt;
     }
 
-pub returns-in-Held : goal.returns-in-Held
-returns-in-Held c =
-    let v = value-here c.args.m c.args.ds.now c.args.ss.now c.requires.0 c.args.i _ _ c.requires.1 c.in-Held.ensures in
+pub returns-in-Some : goal.returns-in-Some
+returns-in-Some c =
+    let v = value-here c.args.m c.args.ds.now c.args.ss.now c.requires.0 c.args.i _ _ c.requires.1 c.in-Some.ensures in
     rw (to_z-of_z (sfits_of c.value_of.type_inv)) (c.value_of.ensures ∙ ap (first (pos 0)) v)
 
-pub returns-in-Cut : goal.returns-in-Cut
-returns-in-Cut c = absurd (never-cut c.args.m c.args.i c.requires.0.measured.accepted.formed c.requires.1 c.in-Cut.ensures)
+pub returns-in-None : goal.returns-in-None
+returns-in-None c = absurd (never-cut c.args.m c.args.i c.requires.0.measured.accepted.formed c.requires.1 c.in-None.ensures)

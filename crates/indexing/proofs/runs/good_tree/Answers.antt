@@ -6,7 +6,7 @@ use borrow.Author.Rules.{rules}
 use Rattle.indexing.proofs.runs.good_tree.Goals as goal
 
 pub is_tree-requires : goal.is_tree-requires
-is_tree-requires c = run-here c.args.m c.args.i _ _ c.in-Held.ensures (search rules) (search rules)
+is_tree-requires c = run-here c.args.m c.args.i _ _ c.in-Some.ensures (search rules) (search rules)
 
-pub returns-in-Held : goal.returns-in-Held
-returns-in-Held c = rw (held-here c.args.m c.args.i _ _ c.in-Held.ensures) (c.is_tree.ensures ∙ ap is_tree (tree-here c.args.m c.args.i _ _ c.in-Held.ensures))
+pub returns-in-Some : goal.returns-in-Some
+returns-in-Some c = rw (held-here c.args.m c.args.i _ _ c.in-Some.ensures) (c.is_tree.ensures ∙ ap is_tree (tree-here c.args.m c.args.i _ _ c.in-Some.ensures))

@@ -3,25 +3,23 @@ use mathlib.Core.Path.{◌≡◌, ap₂}
 use Prim.Native.Nat.{◌+◌, min}
 use Rattle.expression.specs.Node.{max_nodes}
 use Rattle.indexing.specs.Map.{start_of, count_of}
+use Rattle.indexing.proofs.Formed.{stands}
 use Rattle.indexing.proofs.Starts.{past-cut, ends-cut, ends_held}
-use Rattle.indexing.specs.declared.Run.TheVariants as run
+use Rattle.indexing.proofs.runs.run_of.Goals.{else-from-le-MAX_NODES-via-then-from-le-MAX_NODES+else-count-from, else-from-le-MAX_NODES-via-else-from-le-MAX_NODES}
 use Rattle.indexing.proofs.runs.run_of.Goals as goal
 
-pub returns-then-from-gt-MAX_NODES : goal.returns-then-from-gt-MAX_NODES
-returns-then-from-gt-MAX_NODES c =
-    let n : c.count_at-count.result ≡ count_of c.args.m c.args.i = rw c.held-n.ensures at c.count_at-count.ensures in
-    let s : c.start_of-from.result ≡ min (start_of (count_of c.args.m) c.args.i) (max_nodes + 1) = rw c.held-n.ensures at c.start_of-from.ensures in
-    rw (past-cut (count_of c.args.m) c.args.i _ _ s n c.if-from-gt-MAX_NODES.true)
+pub returns-then-count-from : goal.returns-then-count-from
+returns-then-count-from c =
+    let n : c.count_at-count.result ≡ count_of c.args.m c.args.i = rw c.min-n.ensures at c.count_at-count.ensures in
+    let s : c.start_of-from.result ≡ min (start_of (count_of c.args.m) c.args.i) (max_nodes + 1) = rw c.min-n.ensures at c.start_of-from.ensures in
+    let h = ends_held (count_of c.args.m) c.args.i _ _ s n c.if-count-from.true c.if-from-le-MAX_NODES.true in
+    rw h.0 (ap₂ stands h.1 n)
 
-pub returns-then-from-count : goal.returns-then-from-count
-returns-then-from-count c =
-    let n : c.count_at-count.result ≡ count_of c.args.m c.args.i = rw c.held-n.ensures at c.count_at-count.ensures in
-    let s : c.start_of-from.result ≡ min (start_of (count_of c.args.m) c.args.i) (max_nodes + 1) = rw c.held-n.ensures at c.start_of-from.ensures in
-    rw (ends-cut (count_of c.args.m) c.args.i _ _ s n c.if-from-count.true c.if-from-gt-MAX_NODES.false)
-
-pub returns : goal.returns
-returns c =
-    let n : c.count_at-count.result ≡ count_of c.args.m c.args.i = rw c.held-n.ensures at c.count_at-count.ensures in
-    let s : c.start_of-from.result ≡ min (start_of (count_of c.args.m) c.args.i) (max_nodes + 1) = rw c.held-n.ensures at c.start_of-from.ensures in
-    let h = ends_held (count_of c.args.m) c.args.i _ _ s n c.if-from-count.false c.if-from-gt-MAX_NODES.false in
-    rw h.0 (ap₂ run.Held h.1 n)
+pub returns-else-from-le-MAX_NODES : goal.returns-else-from-le-MAX_NODES
+returns-else-from-le-MAX_NODES c =
+    let n : c.count_at-count.result ≡ count_of c.args.m c.args.i = rw c.min-n.ensures at c.count_at-count.ensures in
+    let s : c.start_of-from.result ≡ min (start_of (count_of c.args.m) c.args.i) (max_nodes + 1) = rw c.min-n.ensures at c.start_of-from.ensures in
+    elim c.else-from-le-MAX_NODES.branch [
+      | else-from-le-MAX_NODES-via-then-from-le-MAX_NODES+else-count-from w ↦ rw (ends-cut (count_of c.args.m) c.args.i _ _ s n w.if-count-from.false w.if-from-le-MAX_NODES.true)
+      | else-from-le-MAX_NODES-via-else-from-le-MAX_NODES w ↦ rw (past-cut (count_of c.args.m) c.args.i _ _ s n w.if-from-le-MAX_NODES.false)
+    ]

@@ -4,7 +4,6 @@ use borrow.Author.Tests.{le-leb, lt-leb}
 use native.Mathlib.Nat.{min-eq_left}
 use Rattle.radix.specs.Radix.{max_count}
 use Rattle.radix.proofs.Tests.{under-cap, over-cap}
-use Rattle.refusal.proofs.Judged.{never_done}
 use Rattle.shape.specs.Shape.{max_rank, sizes_of, good_shape}
 use Rattle.shape.specs.declared.Shape.{Shape}
 use Rattle.tiling.specs.Tile.{padded, physical, reversed}
@@ -28,17 +27,9 @@ capped : {s : Shape} {rank tiles : ℕ} {m lens flat : List ℕ} (size : ℕ) �
 capped {s} {rank} {tiles} {m} {lens} {flat} size g e =
     e ∙ ap (λ (o : List ℕ). min (padded (sizes_of s) (reversed o) (tiles_of (layout_from rank m tiles lens flat))) (max_count + 1)) g.kept.read
 
-pub slice_bounds-sizes-end : goal.slice_bounds-sizes-end
-slice_bounds-sizes-end c =
-    (good c.args.shape (search rules) c.requires (sym c.good_shape.ensures ∙ c.if-not-good_shape.false) (sym c.good_parts.ensures ∙ c.if-not-good_parts.false)).limits.room
-
-pub slice_bounds-lay_out-end : goal.slice_bounds-lay_out-end
-slice_bounds-lay_out-end c =
-    sym (good c.args.shape (search rules) c.requires (sym c.good_shape.ensures ∙ c.if-not-good_shape.false) (sym c.good_parts.ensures ∙ c.if-not-good_parts.false)).limits.long
-
-pub slice_bounds-lay_out-end-2 : goal.slice_bounds-lay_out-end-2
-slice_bounds-lay_out-end-2 c =
-    sym (good c.args.shape (search rules) c.requires (sym c.good_shape.ensures ∙ c.if-not-good_shape.false) (sym c.good_parts.ensures ∙ c.if-not-good_parts.false)).kept.long
+pub shared_ref_as_front-lay_out : goal.shared_ref_as_front-lay_out
+shared_ref_as_front-lay_out c =
+    (good c.args.shape (search rules) c.requires (sym c.good_shape.ensures ∙ c.if-not-good_shape.false) (sym c.good_parts.ensures ∙ c.if-not-good_parts.false)).limits.rank
 
 pub slice_bounds-lay_out-end-3 : goal.slice_bounds-lay_out-end-3
 slice_bounds-lay_out-end-3 c =
@@ -51,8 +42,8 @@ lay_out-extent-requires-clause-shaped c =
     let g : Good s l = good c.args.shape (search rules) c.requires (sym c.good_shape.ensures ∙ c.if-not-good_shape.false) (sym c.good_parts.ensures ∙ c.if-not-good_parts.false) in
     subst (λ (o : List ℕ). Shaped (sizes_of s) (reversed o) (lens_of l) c.args.flat.now) (sym g.kept.read) (shaped_of g.limits g.kept)
 
-pub returns-then-extent-le-MAX_COUNT : goal.returns-then-extent-le-MAX_COUNT
-returns-then-extent-le-MAX_COUNT c =
+pub returns : goal.returns
+returns c =
     let s = c.args.shape in
     let l = layout_from c.args.rank c.args.m.now c.args.tiles c.args.lens.now c.args.flat.now in
     let a = sym c.good_shape.ensures ∙ c.if-not-good_shape.false in
@@ -62,23 +53,21 @@ returns-then-extent-le-MAX_COUNT c =
     let e : c.lay_out-extent.result.padded ≡ min (padded_of s l) (max_count + 1) = capped _ g x.padded in
     let small : padded_of s l ≤ max_count = under-cap _ _ e (omega arith) in (
       rw (a, b, le-leb _ _ small),
-      λ _.
-          record {
-            order = order-held g.kept _ x.order;
-            fits = x.fits;
-            same = x.same ∙ ap (λ (o : List ℕ). physical (sizes_of s) (reversed o) (tiles_of l)) g.kept.read;
-            count = x.count;
-            padded = e ∙ min-eq_left (omega (arith, small));
-          },
+      record {
+        order = order-held g.kept _ x.order;
+        fits = x.fits;
+        same = x.same ∙ ap (λ (o : List ℕ). physical (sizes_of s) (reversed o) (tiles_of l)) g.kept.read;
+        count = x.count;
+        padded = e ∙ min-eq_left (omega (arith, small));
+      },
     )
 
-pub returns-else-extent-le-MAX_COUNT : goal.returns-else-extent-le-MAX_COUNT
-returns-else-extent-le-MAX_COUNT c =
+pub returns-then-extent-gt-MAX_COUNT : goal.returns-then-extent-gt-MAX_COUNT
+returns-then-extent-gt-MAX_COUNT c =
     let s = c.args.shape in
     let l = layout_from c.args.rank c.args.m.now c.args.tiles c.args.lens.now c.args.flat.now in
     let a = sym c.good_shape.ensures ∙ c.if-not-good_shape.false in
     let b = sym c.good_parts.ensures ∙ c.if-not-good_parts.false in
     let g : Good s l = good c.args.shape (search rules) c.requires a b in
     let e : c.lay_out-extent.result.padded ≡ min (padded_of s l) (max_count + 1) = capped _ g c.lay_out-extent.ensures.padded in
-    let u = c.unmeasured-else-extent-le-MAX_COUNT.ensures in
-    (rw (a, b, lt-leb _ _ (over-cap _ _ e (omega arith))) u, never_done _ _ u)
+    rw (a, b, lt-leb _ _ (over-cap _ _ e (omega arith)))

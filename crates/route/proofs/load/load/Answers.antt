@@ -1,4 +1,4 @@
--- `route::load::load` meets its contract. A turn reads record i and the one that feeds it.
+-- `route::load::load` meets its contract. Assumes nothing.
 use Rattle.std.proofs.Common.{ℕ, ◌≡◌, refl, sym, ap, subst, arith}
 use Rattle.route.specs.Stations.{blank, station_at}
 use Rattle.route.specs.Loading.{Fit, Holds}
@@ -6,12 +6,12 @@ use Rattle.route.proofs.Entering.{feeds-fit}
 use Rattle.route.proofs.load.load.Goals as goal
 
 pub loop-i-init : goal.loop-i-init
-loop-i-init c = record { within = omega arith; held = c.requires.none }
+loop-i-init c = c.requires.none
 
 pub add-loaded-requires : goal.add-loaded-requires
 unfolding blank
 add-loaded-requires c =
-    let H = c.loop-i.invariant.held in
+    let H = c.loop-i.invariant in
     record {
       shape = c.requires.shape (omega arith);
       few = omega (arith, c.requires.few);
@@ -23,12 +23,10 @@ add-loaded-requires c =
 pub loop-i-preserved : goal.loop-i-preserved
 unfolding blank
 loop-i-preserved c =
-    record {
-      within = omega arith;
-      held = c.add-loaded.ensures.more c.args.stations.now c.loop-i.invariant.held refl (ap (station_at c.args.stations.now) (sym c.feeding_station-from.ensures));
-    }
+    c.add-loaded.ensures.more c.args.stations.now c.loop-i.invariant refl
+    (ap (station_at c.args.stations.now) (sym c.feeding_station-from.ensures))
 
 pub returns : goal.returns
 returns c =
     let e : c.loop-i.i ≡ c.args.n = omega arith in
-    subst (λ (k : ℕ). Holds c.args.shape c.args.stations.now k c.loop-i.loaded) e c.loop-i.invariant.held
+    subst (λ (k : ℕ). Holds c.args.shape c.args.stations.now k c.loop-i.loaded) e c.loop-i.invariant

@@ -1,15 +1,13 @@
 -- `tiling::row::tiled_reach` meets its contract. Assumes nothing.
-use mathlib.Core.Path.{◌≡◌, sym, ◌∙◌}
+use mathlib.Core.Path.{◌≡◌}
 use mathlib.Core.List.{List}
 use Prim.Native.Nat.{ℕ, ◌-◌, ◌*◌, ◌%◌, ◌^◌, ◌<◌, ◌≤◌}
-use native.Mathlib.Nat.{mul-le-mul, mod-lt, min-eq_left, min-eq_right}
+use native.Mathlib.Nat.{mul-le-mul, mod-lt}
 use native.Mathlib.Omega.{arith}
 use lib.ListN.{length, get_or}
 use Rattle.radix.specs.Radix.{Bounded}
-use Rattle.tiling.proofs.Reaches.{reach-unnamed, reach-quotient, reach-remainder}
 use Rattle.tiling.specs.Tile.{max_entry}
 use Rattle.tiling.proofs.row.tiled_reach.Goals as goal
-use Rattle.tiling.proofs.row.tiled_reach.Goals.{then-left-f, else-left-f}
 
 -- the entry at a place
 entry : (ts : List ℕ) (k : ℕ) → Bounded max_entry ts → k < length ts → (0 < get_or ts k 0) × (get_or ts k 0 ≤ max_entry)
@@ -29,16 +27,10 @@ rest x t r h e = omega (arith, mod-lt x h)
 left : (s t r : ℕ) → s ≤ 2 ^ 20 → t ≤ max_entry → s * (t - r) ≤ 2 ^ 20 * max_entry
 left s t r h k = let u : t - r ≤ max_entry = omega (arith, k) in mul-le-mul h u
 
-pub returns-then-f-k : goal.returns-then-f-k
-returns-then-f-k c = reach-unnamed c.args.ts.now c.args.n c.args.f c.if-f-k.true
-
-pub split-d-requires : goal.split-d-requires
-split-d-requires c =
+pub split-d-requires-clause-t_nonzero : goal.split-d-requires-clause-t_nonzero
+split-d-requires-clause-t_nonzero c =
     let h = c.requires.ts_len_bound in
-    record {
-      are_multipliers = c.requires.are_multipliers;
-      t_nonzero = entry_at c.args.ts.now c.args.n c.args.f.place c.requires.bounded h.0 h.1 c.if-f-k.false;
-    }
+    entry_at c.args.ts.now c.args.n c.args.f.place c.requires.bounded h.0 h.1 c.if-f-k.false
 
 pub overflow_mul-result : goal.overflow_mul-result
 overflow_mul-result c =
@@ -47,11 +39,6 @@ overflow_mul-result c =
     let e = entry_at c.args.ts.now c.args.n c.args.f.place c.requires.bounded h.0 h.1 c.if-f-k.false in
     let q : c.args.f.scale * t ≤ 2 ^ 20 * max_entry = mul-le-mul h.3 e.1 in
     omega (arith, q)
-
-pub returns-then-d-eq0 : goal.returns-then-d-eq0
-returns-then-d-eq0 c =
-    let d = c.split-d in
-    reach-quotient c.args.ts.now c.args.n c.args.f c.if-f-k.false d.result.quotient d.result.remainder d.ensures.0 d.ensures.1 c.if-d-eq0.true
 
 pub overflow_sub-left : goal.overflow_sub-left
 overflow_sub-left c =
@@ -69,12 +56,3 @@ overflow_mul-left c =
     let r = c.split-d.result.remainder in
     let q : c.args.f.scale * (t - r) ≤ 2 ^ 20 * max_entry = left c.args.f.scale t r h.3 e.1 in
     omega (arith, q)
-
-pub overflow_add-result : goal.overflow_add-result
-overflow_add-result c = omega (arith, c.requires.ts_len_bound)
-
-pub returns : goal.returns
-returns c =
-    let d = c.split-d in
-    reach-remainder c.args.ts.now c.args.n c.args.f c.if-f-k.false d.result.remainder c.if-left-f.most d.ensures.1 c.if-d-eq0.false
-    (elim c.if-left-f.branch [ then-left-f w ↦ w.most-is ∙ sym (min-eq_right (omega (arith, w.if-left-f.true))) | else-left-f w ↦ w.most-is ∙ sym (min-eq_left w.if-left-f.false) ])

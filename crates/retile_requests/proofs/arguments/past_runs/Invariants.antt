@@ -1,5 +1,0 @@
--- The loop of `arguments::past_runs` ends: the measure is the number of turns that are left.
-use Rattle.retile_requests.proofs.arguments.past_runs.Given as goal
-
-abbrev pub decreases-loop-left : goal.decreases-loop-left
-decreases-loop-left l = l.left
