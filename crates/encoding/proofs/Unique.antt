@@ -6,7 +6,7 @@ use native.Mathlib.Omega.{arith}
 use lib.IntN.{ℤ}
 use lib.ListN.{length}
 use Rattle.integer.proofs.Trunc.{above-0, abs-above-0}
-use Rattle.expression.specs.Expression.{Expr}
+use Rattle.expression.specs.Expression.{Expr, node_count}
 use Rattle.expression.specs.Node.{SoundLeaf, SoundOne, nodes_at}
 use Rattle.expression.specs.Machine.{stack, walk}
 use Rattle.expression.specs.Decode.{leaf_expr, one_expr, expr_alg, tree, decode}
@@ -22,6 +22,7 @@ use Rattle.indexing.specs.Map.{start_of, count_of, tree_at}
 use Rattle.indexing.specs.declared.IndexingMap.{IndexingMap}
 use Rattle.encoding.specs.Postfix.{postfix, Encodable}
 use Rattle.encoding.specs.Encode.{AllEncodable}
+use Rattle.encoding.proofs.Reading.{postfix-length}
 
 -- the nodes of the trees on a stack, the lowest first
 abbrev stacked : List Expr → List Node
@@ -109,6 +110,13 @@ module _ (m : IndexingMap) (i : ℕ) (e : Expr) (q : tree_at m i ≡ tree e) whe
 
   sound : SoundAll m.dims m.ranges nodes
   sound = nodes-ok m.dims m.ranges m.kinds m.values (start_of (count_of m) i) (count_of m i)
+
+  pub run-count : count_of m i ≡ node_count e
+  unfolding tree_at
+  run-count =
+      sym (nodes-length m.dims m.ranges m.kinds m.values (start_of (count_of m) i) (count_of m i))
+      ∙ ap (λ (l : List Node). length l) (nodes-unique m.dims m.ranges nodes e sound q)
+      ∙ postfix-length e
 
   pub run-encodable : Encodable m.dims m.ranges e
   unfolding tree_at

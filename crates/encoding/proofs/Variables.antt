@@ -1,9 +1,9 @@
 -- The place of a variable and the kind of a floordiv or mod, by their numbers in words. Assumes nothing.
 use mathlib.Core.Path.{◌≡◌, refl, sym, ap, ◌∙◌}
 use mathlib.Core.Bool.{Bool, cond}
-use Prim.Native.Nat.{ℕ, ◌+◌, ◌<◌}
+use Prim.Native.Nat.{ℕ, ◌+◌, ◌<◌, ◌≤◌}
 use native.Mathlib.Omega.{arith}
-use borrow.Author.Tests.{lt-ltb}
+use borrow.Author.Tests.{lt-ltb, le-ltb}
 use lib.IntN.{ℤ, pos}
 use Rattle.expression.specs.Expression.{Kind, d, s, rt, Op, floordiv, modulo}
 use Rattle.expression.specs.Node.{max_variables}
@@ -13,6 +13,9 @@ use Rattle.encoding.specs.Written.{IsPlace, IsOp}
 
 pub place_in : (start n : ℕ) → n < max_variables → place_from start n ≡ start + n
 place_in start n h = ap (λ (b : Bool). cond b (start + n) no_place) (lt-ltb n max_variables h)
+
+pub place_out : (start n : ℕ) → max_variables ≤ n → place_from start n ≡ no_place
+place_out start n h = ap (λ (b : Bool). cond b (start + n) no_place) (le-ltb n max_variables h)
 
 pub of-dim : (kind n : ℕ) (r : ℤ) → n < max_variables → kind ≡ 0 → r ≡ pos n → IsPlace kind n r
 unfolding kind_number
@@ -42,6 +45,14 @@ of-runtime kind n x y = record { is = go }
     go : (k : Kind) → kind ≡ kind_number k → pos no_place ≡ value_of (variable_of k n)
     go d q = absurd (x q)
     go s q = absurd (y q)
+    go rt q = refl
+
+pub of_none : (kind n : ℕ) → max_variables ≤ n → IsPlace kind n (pos no_place)
+of_none kind n h = record { is = go }
+  where
+    go : (k : Kind) → kind ≡ kind_number k → pos no_place ≡ value_of (variable_of k n)
+    go d q = ap pos (sym (place_out 0 n h))
+    go s q = ap pos (sym (place_out max_variables n h))
     go rt q = refl
 
 pub of-floordiv : (op : ℕ) → op ≡ 3 → IsOp op 4

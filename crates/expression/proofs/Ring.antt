@@ -1,11 +1,14 @@
 -- Laws of ℤ: the ring laws as one set of rules, and floor division by a quotient and a remainder. Assumes nothing.
 use mathlib.Core.Path.{◌≡◌, refl, sym, ap, ◌∙◌}
-use Prim.Native.Nat.{ℕ, zero, suc, ◌*◌, ◌<◌}
+use Prim.Native.Nat.{ℕ, zero, suc, ◌*◌, ◌<◌, ◌-◌, ◌≤◌}
 use native.Mathlib.Nat.{mod-lt}
 use native.Mathlib.Omega.{arith}
 use lib.IntN.{ℤ, pos, negsuc, neg_ℤ, sub_ℕ, nat_abs, ◌+ℤ◌, ◌*ℤ◌, +ℤ_assoc, +ℤ_comm, +ℤ_idl, +ℤ_idr, +ℤ_invl, +ℤ_invr, *ℤ_comm, zero-*ℤ, neg_ℤ-+ℤ, neg_ℤ-neg_ℤ}
 use Rattle.integer.specs.Floor.{floor_div, floor_mod}
 use Rattle.integer.proofs.Laws.{*ℤ-distribl, *ℤ-assoc, div-mod, div-unique, mod-unique}
+use mathlib.Core.Bool.{Bool, true, false, cond, not}
+use lib.Dec.{T, ltb, lt→ltb}
+use lib.Arith.{le→nltb}
 
 -- (a + b) + (c + e) regrouped
 pub swap4 : (a b c e : ℤ) → (a +ℤ b) +ℤ (c +ℤ e) ≡ (a +ℤ c) +ℤ (b +ℤ e)
@@ -42,6 +45,24 @@ cancel-mid a b = sym (+ℤ_assoc a (neg_ℤ a) b) ∙ ap (λ x. x +ℤ b) (+ℤ_
 
 pub cancel-mid' : (a b : ℤ) → neg_ℤ a +ℤ (a +ℤ b) ≡ b
 cancel-mid' a b = sym (+ℤ_assoc (neg_ℤ a) a b) ∙ ap (λ x. x +ℤ b) (+ℤ_invl a) ∙ +ℤ_idl b
+
+T_true : (b : Bool) → T b → b ≡ true
+T_true true t = refl
+T_true false t = absurd t
+
+T_false : (b : Bool) → T (not b) → b ≡ false
+T_false true t = absurd t
+T_false false t = refl
+
+subℕ-lt : (a b : ℕ) → a < b → sub_ℕ a b ≡ negsuc (b - suc a)
+subℕ-lt a b h = ap (λ x. cond x (negsuc (b - suc a)) (pos (a - b))) (T_true (ltb a b) (lt→ltb a b h))
+
+pub subℕ-ge : (a b : ℕ) → b ≤ a → sub_ℕ a b ≡ pos (a - b)
+subℕ-ge a b h = ap (λ x. cond x (negsuc (b - suc a)) (pos (a - b))) (T_false (ltb a b) (le→nltb a b h))
+
+-- −(suc n) + r, for r ≤ n
+pub neg-plus : (n r : ℕ) → r ≤ n → negsuc n +ℤ pos r ≡ negsuc (n - r)
+neg-plus n r h = subℕ-lt r (suc n) (omega arith) ∙ ap negsuc (omega arith)
 
 -- `simp ringℤ`: both sides of an equation between sums of products are brought to one form
 pub ruleset ringℤ = (*ℤ-distribr, *ℤ-distribl, +ℤ_assoc, +ℤ_comm, +ℤ-left, *ℤ-assoc, *ℤ_comm, *ℤ-left, negℤ-*ℤ, *ℤ-negℤ, neg_ℤ-+ℤ, neg_ℤ-neg_ℤ, cancel-mid, cancel-mid', +ℤ_invr, +ℤ_invl, +ℤ_idl, +ℤ_idr)
