@@ -23,8 +23,9 @@ use Rattle.encoding.proofs.Lists.{map-append}
 use Rattle.encoding.proofs.Filled.{filled_next}
 use Rattle.encoding.proofs.Held.{holds-next, count_next}
 use Rattle.encoding.specs.Trees.{listed, constraint_at, map_constraints, map_bounds}
-use Rattle.fold.specs.Ready.{FoldsRun, is_gone, Goes, ConstraintGoes, ConstraintStays, ConstraintsFolded}
+use Rattle.fold.specs.Ready.{FoldsRun, is_gone, Goes, FoldsConstraint, ConstraintGoes, ConstraintStays, ConstraintsFolded}
 use Rattle.tree_sum.specs.declared.TreeSum.{TreeSum}
+use Rattle.fold.specs.declared.FoldedConstraint.TheVariants.{Passed}
 use Rattle.fold.proofs.Results.{sum-stands, small-next, small-not}
 use Rattle.encoding.proofs.Listed.{listed-map}
 
@@ -52,6 +53,9 @@ goes m k w n ok gone lo hi r g =
 -- ---- one constraint
 
 module _ (m : IndexingMap) (k : ℕ) (w : List ℤ) (s : TreeSum) (f : FoldsRun m (m.results + k) w s) {ks : List ℕ} {vs : List ℤ} {at : ℕ} (room : Room ks vs at) where
+  pub constraint-over : s.small ≡ false → FoldsConstraint m k ks ks vs vs at Passed
+  constraint-over e = (sym f.judged ∙ e, record { kinds = refl; values = refl; most = room.most })
+
   module _ (e : s.small ≡ true) (gone : Bool) (g : Goes m k w s.terms gone) where
     gone-is : gone ≡ is_gone m k
     gone-is =

@@ -1,4 +1,5 @@
 -- Runs folded one after another: what is judged, what is written and what is counted. Assumes nothing.
+use Rattle.std.specs.Prelude.{None}
 use mathlib.Core.Path.{◌≡◌, refl, sym, ap, ap₂, ◌∙◌, subst}
 use mathlib.Core.Bool.{Bool, true, false, ◌&&◌}
 use mathlib.Core.List.{List, [], ◌∷◌, ◌++◌, map}
@@ -23,7 +24,7 @@ use Rattle.encoding.proofs.Lists.{map-append}
 use Rattle.encoding.proofs.Filled.{filled_next}
 use Rattle.encoding.proofs.Held.{holds-none, holds-next, count_next}
 use Rattle.encoding.specs.Trees.{listed, expr_at, result_trees, map_bounds}
-use Rattle.fold.specs.Ready.{FoldsRun, RunWritten}
+use Rattle.fold.specs.Ready.{FoldsRun, RunWritten, WritesRun}
 use Rattle.tree_sum.specs.declared.TreeSum.{TreeSum}
 use Rattle.rules.proofs.Standing.{sum-rest, front-stands}
 use Rattle.encoding.proofs.Listed.{listed-length}
@@ -37,6 +38,9 @@ sum-stands m i w s f e =
     front-stands w s.end (sum_words (map_bounds m) t []) (f.standing e) ∙ sym (sum-rest (map_bounds m) t (drop s.end w))
 
 module _ (m : IndexingMap) (i : ℕ) (w : List ℤ) (s : TreeSum) (f : FoldsRun m i w s) {ks : List ℕ} {vs : List ℤ} {at : ℕ} (room : Room ks vs at) where
+  pub writes-over : s.small ≡ false → WritesRun m i ks ks vs vs at None
+  writes-over e = (sym f.judged ∙ e, record { kinds = refl; values = refl; most = room.most })
+
   pub writes-run : {ks' : List ℕ} {vs' : List ℤ} {r : ℕ} → s.small ≡ true → EmitsSum w 0 s.terms ks ks' vs vs' at r
       → RunWritten m i ks ks' vs vs' at r
   unfolding fold_tree

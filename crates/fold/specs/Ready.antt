@@ -54,9 +54,9 @@ pub record RunWritten (m : IndexingMap) (i : ℕ) (ks ks' : List ℕ) (vs vs' : 
   pub kept : Kept ks ks' vs vs' r
   pub written : Written (postfix (fold_tree (map_bounds m) (expr_at m i))) ks ks' vs vs' at r
 
--- or a sum formed passes a limit
+-- or a sum formed passes a limit, and the lists stay as long as they are
 abbrev pub WritesRun : IndexingMap → ℕ → List ℕ → List ℕ → List ℤ → List ℤ → ℕ → Option ℕ → Type 0
-WritesRun m i ks ks' vs vs' at None = small_working (map_bounds m) (expr_at m i) ≡ false
+WritesRun m i ks ks' vs vs' at None = (small_working (map_bounds m) (expr_at m i) ≡ false) × Kept ks ks' vs vs' at
 WritesRun m i ks ks' vs vs' at (Some r) = RunWritten m i ks ks' vs vs' at r
 
 -- ---- the results
@@ -96,9 +96,9 @@ pub record ConstraintStays (m : IndexingMap) (k : ℕ) (ks ks' : List ℕ) (vs v
   pub kept : Kept ks ks' vs vs' r
   pub written : Written (postfix (fold_tree (map_bounds m) (constraint_at m k).expr)) ks ks' vs vs' at r
 
--- or a sum formed passes a limit
+-- or a sum formed passes a limit, and the lists stay as long as they are
 abbrev pub FoldsConstraint : IndexingMap → ℕ → List ℕ → List ℕ → List ℤ → List ℤ → ℕ → FoldedConstraint → Type 0
-FoldsConstraint m k ks ks' vs vs' at Passed = small_working (map_bounds m) (constraint_at m k).expr ≡ false
+FoldsConstraint m k ks ks' vs vs' at Passed = (small_working (map_bounds m) (constraint_at m k).expr ≡ false) × Kept ks ks' vs vs' at
 FoldsConstraint m k ks ks' vs vs' at Gone = ConstraintGoes m k ks ks' vs vs'
 FoldsConstraint m k ks ks' vs vs' at (Stays r) = ConstraintStays m k ks ks' vs vs' at r
 

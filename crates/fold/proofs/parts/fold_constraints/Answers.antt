@@ -9,7 +9,7 @@ pub loop-k-init : goal.loop-k-init
 loop-k-init c = (keeping_start c.args.m c.requires.2 c.requires.3, refl, refl, refl, refl, refl, refl, refl)
 
 pub returns-in-Passed : goal.returns-in-Passed
-returns-in-Passed c = keeping-over c.args.m c.loop-k.invariant.0 c.loop-k-test.true c.in-Passed.ensures
+returns-in-Passed c = keeping-over c.args.m c.loop-k.invariant.0 c.loop-k-test.true c.in-Passed.ensures.0
 
 pub offset_bounds-counts-count : goal.offset_bounds-counts-count
 offset_bounds-counts-count c =

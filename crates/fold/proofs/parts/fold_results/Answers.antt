@@ -23,7 +23,7 @@ fold_run-requires c = (
 )
 
 pub returns-in_err-end : goal.returns-in_err-end
-returns-in_err-end c = rw c.from_residual.ensures (folding-over c.args.m c.loop-i.invariant.0 c.loop-i-test.true c.in_err-end.ensures)
+returns-in_err-end c = rw c.from_residual.ensures (folding-over c.args.m c.loop-i.invariant.0 c.loop-i-test.true c.in_err-end.ensures.0)
 
 pub offset_bounds-counts-i : goal.offset_bounds-counts-i
 offset_bounds-counts-i c =
