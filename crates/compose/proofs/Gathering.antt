@@ -20,6 +20,7 @@ use Rattle.encoding.specs.Trees.{listed}
 use Rattle.compose.specs.ComposeMap.{composed_results, composed_constraints}
 use Rattle.compose.specs.Ready.{constraint_count, constraint_of, Gathers, GathersConstraints}
 use Rattle.compose.proofs.Joined.{constraints-listed}
+use native.Mathlib.Omega.{arith}
 
 -- one entry more of an array that is filled from its front on
 pub filled_more : {A B : Type 0} (size : ℕ) (z : A) (f : B → A) (c : ℕ → B) (l : List A) (i : ℕ) (x : A)
@@ -40,6 +41,9 @@ module _ (es : List Expr) (tree : ℕ → Expr) (size : ℕ) where
 
   module _ (i : ℕ) {counts ks ks' : List ℕ} {vs vs' : List ℤ} {at r : ℕ} (g : Gathers es (listed tree i) size counts ks vs at)
       (w : Written (postfix (tree i)) ks ks' vs vs' at r) where
+    pub place-next : at ≤ r
+    place-next = omega (arith, w.nodes, g.holds.nodes)
+
     more : (es ++ listed tree i) ++ (tree i ∷ []) ≡ es ++ listed tree (suc i)
     unfolding listed
     more = append_assoc es (listed tree i) (tree i ∷ [])
@@ -78,6 +82,9 @@ module _ (f g : IndexingMap) where
 
   module _ (k : ℕ) {counts ks ks' : List ℕ} {lower upper vs vs' : List ℤ} {at r : ℕ} (c : Composing f g k counts lower upper ks vs at)
       (w : Written (postfix (constraint_of f g k).expr) ks ks' vs vs' at r) where
+    pub composing-place : at ≤ r
+    composing-place = place-next (composed_results f g) tree_of max_constraints k c.trees w
+
     pub composing-next : (lo hi : ℤ) → lo ≡ (constraint_of f g k).interval.lo → hi ≡ (constraint_of f g k).interval.hi
         → Composing f g (suc k) (set counts k (r - at)) (set lower k lo) (set upper k hi) ks' vs' r
     composing-next lo hi p q =
