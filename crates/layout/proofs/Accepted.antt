@@ -103,6 +103,9 @@ module _ {rank : ℕ} {l : Layout} (k : Kept rank l) (o : List ℕ) where
   pub order-held : take (length (take rank l.minor_to_major)) o ≡ reversed (take rank l.minor_to_major) → take rank o ≡ order_of l
   order-held e = ap (λ (n : ℕ). take n o) (sym k.long) ∙ e ∙ ap reversed k.read
 
+  pub order-room : length o ≡ max_rank → (rank ≤ length o) × (length (take rank o) ≡ rank)
+  order-room six = let h : rank ≤ length o = omega (arith, k.few) in (h, length-take-le rank o h)
+
 pub shaped_of : {s : Shape} {l : Layout} → Limits s → Kept s.rank l → Shaped (sizes_of s) (order_of l) (lens_of l) l.tile
 shaped_of {s} {l} g k =
     record {

@@ -6,7 +6,7 @@ use Prim.Native.Nat.{ℕ, zero, suc, ◌+◌, ◌<◌, ◌≤◌, min}
 use native.Mathlib.Nat.{not-suc-le-zero, le_of_suc-le-suc, eq-or-lt_of_le}
 use native.Mathlib.Omega.{arith}
 use mathlib.Core.List.{List, [], ◌∷◌}
-use lib.ListN.{length, get_or, get_or-eq_default}
+use lib.ListN.{length, get_or, get_or-eq_default, drop, drop_of_length-le}
 use lib.Dec.{ltb, leb}
 use borrow.Author.Tests.{lt-ltb, ltb-true, ltb-false, leb-true, leb-false, le-leb, lt-leb}
 use native.Mathlib.Nat.{min-eq_left, min-eq_right}
@@ -14,7 +14,7 @@ use Rattle.std.specs.List.{list_all, zip, position_or_len}
 use Rattle.std.specs.Option.{unwrap_or}
 use Rattle.std.specs.Prelude.{Option, Some, None}
 use Rattle.radix.specs.Radix.{max_count, every, first, is_within, is_inside, Bounded, Upto, In, none, more}
-use Rattle.radix.proofs.Lists.{le-or-lt}
+use Rattle.radix.proofs.Lists.{le-or-lt, rest-of}
 
 pub and-true : {a b : Bool} → a ≡ true → b ≡ true → (a && b) ≡ true
 and-true e f = rw (e, f)
@@ -140,6 +140,10 @@ bounded_of most ds e k l =
     let t = every-at (λ (k : ℕ). leb 1 (get_or ds k 0) && leb (get_or ds k 0) most) (length ds) e k l in
     (leb-true 1 (get_or ds k 0) (and_left (leb 1 (get_or ds k 0)) (leb (get_or ds k 0) most) t), leb-true (get_or ds k 0) most (and_right (leb 1 (get_or ds k 0)) (leb (get_or ds k 0) most) t))
 
+pub bounded-up : (a b : ℕ) (ds : List ℕ) → a ≤ b → Bounded a ds → Bounded b ds
+unfolding Bounded
+bounded-up a b ds h s k l = ((s k l).0, omega (arith, (s k l).1))
+
 -- a bounded list has no entry above the bound
 pub upto-bounded : (b : ℕ) (ds : List ℕ) → Bounded b ds → Upto b ds
 unfolding Upto Bounded
@@ -162,6 +166,13 @@ under-cap x r e h = leb-true x max_count (sym (capped x) ∙ ap (λ (y : ℕ). l
 
 pub over-cap : (x r : ℕ) → r ≡ min x (max_count + 1) → max_count < r → max_count < x
 over-cap x r e h = leb-false x max_count (sym (capped x) ∙ ap (λ (y : ℕ). leb y max_count) (sym e) ∙ lt-leb r max_count h)
+
+-- the test of an index, at place i
+pub inside-at : (es ds : List ℕ) (i : ℕ) → i < length es → i < length ds → is_inside (drop i es) (drop i ds) ≡ (ltb (get_or es i 0) (get_or ds i 0) && is_inside (drop (i + 1) es) (drop (i + 1) ds))
+inside-at es ds i h g = rw (rest-of es i h, rest-of ds i g)
+
+pub inside-end : (es ds : List ℕ) (i : ℕ) → length es ≤ i → length ds ≤ i → is_inside (drop i es) (drop i ds) ≡ true
+inside-end es ds i h g = rw (drop_of_length-le es h, drop_of_length-le ds g)
 
 -- the test of each pair of an index and sizes of one length, as a chain gives it
 pub all-inside : (es ds : List ℕ) → length es ≡ length ds → list_all (λ (p : ℕ × ℕ). ltb p.0 p.1) (zip es ds) ≡ is_inside es ds

@@ -6,9 +6,9 @@ use Prim.Native.Nat.{ℕ, ◌+◌, ◌<◌, ◌≤◌}
 use native.Mathlib.Omega.{arith}
 use mathlib.Core.List.{List}
 use lib.Dec.{ltb, eqb}
-use lib.ListN.{length, get_or, set, length-set}
+use lib.ListN.{length, get_or, set, length-set, replicate, length-replicate, get_or-replicate}
 use lib.Seq.{get_or-set_same, get_or-set_other}
-use borrow.Author.Count.{below_more}
+use borrow.Author.Count.{below_more, below_none}
 use borrow.Author.Tests.{eq-eqb, ne_eqb, eqb-true, eqb-false, lt-ltb, le-ltb, le-leb, lt-leb}
 use Rattle.radix.proofs.Tests.{every-all, every-not, and-true, and-false, first-is}
 use Rattle.radix.proofs.Lists.{le-or-lt}
@@ -32,6 +32,15 @@ past a i n =
     (λ (l : i + 1 ≤ a). le-ltb a i (omega arith) ∙ sym (le-ltb a (i + 1) l))
     (λ (l : a < i + 1). lt-ltb a i (omega (arith, n)) ∙ sym (lt-ltb a (i + 1) l))
     (le-or-lt (i + 1) a)
+
+pub marked-none : (n : ℕ) (xs : List ℕ) → length xs ≤ n → Marked xs 0 (replicate n 0)
+marked-none n xs h =
+    record {
+      room = omega (arith, length-replicate {A = ℕ} n 0);
+      below = below_none _;
+      once = below_none _;
+      marks = λ d l. rw (get_or-replicate {A = ℕ} n d 0 0 (omega arith)) (sym (le-ltb (place d xs) 0 (omega arith)));
+    }
 
 pub marked_all : (xs met : List ℕ) (i : ℕ) → length xs ≤ i → Marked xs i met → true ≡ is_permutation xs
 unfolding is_permutation in_range

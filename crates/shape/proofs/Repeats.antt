@@ -12,16 +12,22 @@ use borrow.Author.Tests.{eq-eqb, ne_eqb, eqb-true, eqb-false, le-leb, lt-leb}
 use Rattle.radix.proofs.Lists.{le-or-lt}
 use Rattle.radix.proofs.Tests.{first-is, first-none, first-true, first-before}
 use Rattle.std.specs.Option.{is_some}
-use Rattle.refusal.specs.Number.{Answer, done, refusal}
+use Rattle.refusal.specs.Number.{Answer, done, refusal, number_of}
 use Rattle.refusal.specs.declared.Refusal.TheVariants.{Repeat}
 use Rattle.shape.specs.Repeats.{earlier_of, FirstRepeat}
 use Rattle.shape.specs.Dimensions.{place, same_dimension, repeats, later_place, earlier_place, free, first_pair, first_repeat}
 use Rattle.shape.proofs.FirstRepeats.{later-found, earlier-found, none-later}
+use Rattle.refusal.proofs.Theorems.{number-positive}
+use Rattle.refusal.specs.declared.Refusal.{Refusal}
 
 -- the first place of a dimension
 pub place_is : (j : ℕ) (xs : List ℕ) (k : ℕ) → k < length xs → get_or xs k 0 ≡ j → ((i : ℕ) → i < k → get_or xs i 0 ≡ j → ⊥) → place j xs ≡ k
 unfolding place
 place_is j xs k l e h = first-is (λ (i : ℕ). eqb (get_or xs i 0) j) (length xs) k l (eq-eqb (get_or xs k 0) j e) (λ i g. ne_eqb (get_or xs i 0) j (h i g))
+
+pub place_none : (j : ℕ) (xs : List ℕ) → ((i : ℕ) → i < length xs → get_or xs i 0 ≡ j → ⊥) → place j xs ≡ length xs
+unfolding place
+place_none j xs h = first-none (λ (i : ℕ). eqb (get_or xs i 0) j) (length xs) (λ i g. ne_eqb (get_or xs i 0) j (h i g))
 
 pub place_at : (j : ℕ) (xs : List ℕ) → place j xs < length xs → get_or xs (place j xs) 0 ≡ j
 unfolding place
@@ -86,3 +92,20 @@ pair-repeat xs = go (free xs)
         ≡ cond b (done {A = ℕ} []) (refusal {A = ℕ} [] (Repeat (earlier_place xs) (later_place xs)))
     go true = refl
     go false = refl
+
+-- what the answer says of the list
+pub free-done : (xs : List ℕ) → done {A = ℕ} [] ≡ first_repeat xs → free xs ≡ true
+unfolding first_repeat
+free-done xs e = go (free xs) e
+  where
+    go : (b : Bool) → done {A = ℕ} [] ≡ cond b (done {A = ℕ} []) (refusal {A = ℕ} [] (Repeat (earlier_place xs) (later_place xs))) → b ≡ true
+    go true e = refl
+    go false e = let z : ◌≡◌ {A = ℕ} 0 2 = ap (λ (a : Answer ℕ). a.number) e in absurd (omega arith)
+
+pub free-refused : (xs : List ℕ) (r : Refusal) → refusal {A = ℕ} [] r ≡ first_repeat xs → free xs ≡ false
+unfolding first_repeat
+free-refused xs r e = go (free xs) e
+  where
+    go : (b : Bool) → refusal {A = ℕ} [] r ≡ cond b (done {A = ℕ} []) (refusal {A = ℕ} [] (Repeat (earlier_place xs) (later_place xs))) → b ≡ false
+    go true e = let z : number_of r ≡ 0 = ap (λ (a : Answer ℕ). a.number) e in absurd (omega (arith, number-positive r))
+    go false e = refl

@@ -39,10 +39,10 @@ module _ (f g : ℕ → ℕ → ℕ) (ts es : List ℕ) (n : ℕ) (is : length e
     kept : (i : ℕ) → (i ≡ n - m + j → ⊥) → (i ≡ n + j → ⊥) → get_or next i 0 ≡ get_or at i 0
     kept i a b = get_or-set_other (set at (n - m + j) q) (n + j) i r 0 b ∙ get_or-set_other at (n - m + j) i q 0 a
 
-    place_here : get_or at (n - m + j) 0 ≡ get_or es (n - m + j) 0
+    pub place_here : get_or at (n - m + j) 0 ≡ get_or es (n - m + j) 0
     place_here = v.others (n - m + j) (omega arith) (inr (omega arith))
 
-    place-next : Partly f g n ts es next (j + 1)
+    pub place-next : Partly f g n ts es next (j + 1)
     place-next =
         record {
           within = omega arith;

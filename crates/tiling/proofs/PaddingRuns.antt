@@ -153,3 +153,10 @@ padding-goes-on sizes p tss k j h e l =
 pub outside-run : (sizes p : List ℕ) (tss : List (List ℕ)) (k : ℕ) → k < padded sizes p tss → is_inside (candidate sizes p tss k) sizes ≡ false → PaddingRun sizes p tss k (rest_of (physical sizes p tss) k)
 unfolding padded
 outside-run sizes p tss k h e = record { some = rest_some (physical sizes p tss) k h; each = λ j l. padding-goes-on sizes p tss k j h e l }
+
+pub one-run : (sizes p : List ℕ) (tss : List (List ℕ)) (k : ℕ) → k < padded sizes p tss → cell sizes p tss k ≡ padding → PaddingRun sizes p tss k 1
+one-run sizes p tss k h e =
+    record {
+      some = omega arith;
+      each = λ j l. let z : k + j ≡ k = omega arith in (omega arith, ap (cell sizes p tss) z ∙ e);
+    }

@@ -26,10 +26,10 @@ module _ (ts fs : List ℕ) (k : ℕ) where
   -- one entry more
   module _ (at : List ℕ) (j : ℕ) (long : k + m + m ≤ length at) (v : PartlyUndone k ts fs at j) (l : j < m) where
     -- the quotient and the remainder still stand
-    undone-quotient : get_or at (k + j) 0 ≡ get_or fs (k + j) 0
+    pub undone-quotient : get_or at (k + j) 0 ≡ get_or fs (k + j) 0
     undone-quotient = v.others (k + j) (omega arith) (inr (omega arith))
 
-    undone-remainder : get_or at (k + m + j) 0 ≡ get_or fs (k + m + j) 0
+    pub undone-remainder : get_or at (k + m + j) 0 ≡ get_or fs (k + m + j) 0
     undone-remainder = v.others (k + m + j) (omega arith) (inr (omega arith))
 
     -- the product and the remainder are small
