@@ -4,8 +4,8 @@ use mathlib.Core.Bool.{Bool, true, false}
 use mathlib.Core.List.{List, [], ◌∷◌, ◌++◌, map, append-nil, append_assoc}
 use Prim.Native.Nat.{ℕ, zero, suc, ◌+◌, ◌-◌, ◌*◌, ◌/◌, ◌<◌, ◌≤◌}
 use native.Mathlib.Omega.{arith}
-use native.Mathlib.Nat.{zero-add, div-add-mod'}
-use lib.IntN.{ℤ, pos, negsuc, neg_ℤ}
+use native.Mathlib.Nat.{zero-add, div-add-mod', div-le_self}
+use lib.IntN.{ℤ, pos, negsuc, neg_ℤ, nat_abs}
 use lib.ListN.{length, length-map}
 use Rattle.shape.specs.Shape.{max_rank}
 use Rattle.expression.specs.Expression.{d, modulo, Expr, Range, span}
@@ -22,18 +22,59 @@ use Rattle.operation_maps.specs.declared.Axis.{Axis}
 use Rattle.operation_maps.specs.declared.Axis.TheVariants.{Keep, Flip, Cut, Shift}
 use Rattle.map_builder.specs.declared.Draft.{Draft}
 use Rattle.map_builder.specs.Raw.{Raw, encoded}
-use Rattle.operation_maps.specs.Axes.{Side, side_trees, side_tests, side_map}
-use Rattle.operation_builder.specs.Family.{side_of}
+use Rattle.operation_maps.specs.Axes.{Side, side_trees, side_tests, side_map, taken}
+use Rattle.operation_builder.specs.Family.{side_of, Ready}
 use Rattle.map_builder.specs.Draft.{empty_draft, add_dimension, push_variable, push_constant, push_product, push_mod, push_shifted, push_affine, steps}
 use Rattle.operation_builder.specs.AxisDraft.{push_axis, add_axis, add_test}
 use Rattle.map_builder.proofs.Drafted.{Drafted, drafted-encoded, empty-drafted, with_dimension, dimension-drafted, node-drafted, result-drafted, constraint-drafted, variable-value}
 use Rattle.map_builder.proofs.Steps.{Grows, steps-drafted}
+use Rattle.radix.specs.Radix.{max_count}
 
 -- ---- bounds
+
+pub whole-low : (out : Bool) (n : ℕ) → pos 0 ≡ (side_of out (Keep n)).bound.lo
+whole-low true n = refl
+whole-low false n = refl
+
+pub turned-low : (out : Bool) (n : ℕ) → pos 0 ≡ (side_of out (Flip n)).bound.lo
+turned-low true n = refl
+turned-low false n = refl
+
+pub whole-high : (out : Bool) (n : ℕ) → pos (n - 1) ≡ (side_of out (Keep n)).bound.hi
+whole-high true n = refl
+whole-high false n = refl
+
+pub turned-high : (out : Bool) (n : ℕ) → pos (n - 1) ≡ (side_of out (Flip n)).bound.hi
+turned-high true n = refl
+turned-high false n = refl
+
+pub low_small : (out : Bool) (a : Axis) (r : ℕ) → Ready a → pos r ≡ (side_of out a).bound.lo → r ≤ max_count
+low_small true (Keep n) r h e = let q : r ≡ 0 = ap nat_abs e in omega (arith, q)
+low_small false (Keep n) r h e = let q : r ≡ 0 = ap nat_abs e in omega (arith, q)
+low_small true (Flip n) r h e = let q : r ≡ 0 = ap nat_abs e in omega (arith, q)
+low_small false (Flip n) r h e = let q : r ≡ 0 = ap nat_abs e in omega (arith, q)
+low_small true (Cut s l t) r h e = let q : r ≡ 0 = ap nat_abs e in omega (arith, q)
+low_small false (Cut s l t) r h e = let q : r ≡ s = ap nat_abs e in omega (arith, q, h.0, h.1.0)
+low_small true (Shift by n) r h e = let q : r ≡ by = ap nat_abs e in omega (arith, q, h.0)
+low_small false (Shift by n) r h e = let q : r ≡ 0 = ap nat_abs e in omega (arith, q)
 
 -- the last one taken lies below the limit
 pub last-below : (s l t : ℕ) → s < l → s + (l - 1 - s) / t * t < l
 last-below s l t h = omega (arith, h, div-add-mod' (l - 1 - s) t)
+
+pub last-few : (s l t : ℕ) → (l - 1 - s) / t ≤ l
+last-few s l t = let q = div-le_self (l - 1 - s) t in omega (arith, q)
+
+pub last-is : (s l t : ℕ) → s + (l - 1 - s) / t * t ≡ s + (taken s l t - 1) * t
+last-is s l t = let q : (l - 1 - s) / t ≡ taken s l t - 1 = omega arith in ap (λ (m : ℕ). s + m * t) q
+
+pub pushed-results : (out : Bool) (a : Axis) (k : ℕ) (x : Draft) → (push_axis out a k x).map.results ≡ x.map.results
+pushed-results out (Keep n) k x = refl
+pushed-results out (Flip n) k x = refl
+pushed-results true (Cut s l t) k x = refl
+pushed-results false (Cut s l t) k x = refl
+pushed-results true (Shift by n) k x = refl
+pushed-results false (Shift by n) k x = refl
 
 -- ---- growth
 

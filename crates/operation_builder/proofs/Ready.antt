@@ -1,5 +1,5 @@
 -- Shapes that keep their limits give what the maps ask for. Assumes nothing.
-use mathlib.Core.Path.{◌≡◌, sym, ◌∙◌, subst}
+use mathlib.Core.Path.{◌≡◌, sym, ◌∙◌, subst, ap}
 use mathlib.Core.Bool.{true}
 use mathlib.Core.List.{List, []}
 use Prim.Native.Nat.{ℕ, ◌<◌, ◌≤◌}
@@ -19,6 +19,7 @@ use Rattle.operation_builder.specs.SelectionDraft.{Choosable, KeptAs}
 use Rattle.operation_builder.specs.ReshapeDraft.{Reshapable}
 use Rattle.operation_builder.specs.declared.Kept.{Kept}
 use Rattle.operation_builder.proofs.SelectionSteps.{front-is}
+use Rattle.encoding.proofs.Filled.{filled-length}
 
 pub chosen-ready : (x : Shape) (l : List ℕ) → Chosen x l → Choosable (sizes_of x) l
 chosen-ready x l h = let g = limited-of x h.good in record { few = g.few; sized = g.sized; choice = h.choice }
@@ -28,15 +29,25 @@ chosen-ready x l h = let g = limited-of x h.good in record { few = g.few; sized 
 pub record Front (l ns : List ℕ) (k : Kept) : Type 0 where
   pub dims : take k.count k.dims ≡ others l (length ns)
   pub sizes : take k.count k.sizes ≡ select (others l (length ns)) ns
+  pub room-dims : k.count ≤ length k.dims
+  pub room-sizes : k.count ≤ length k.sizes
+  pub long-dims : k.count ≡ length (take k.count k.dims)
+  pub long-sizes : k.count ≡ length (take k.count k.sizes)
 
 pub kept-front : (l ns : List ℕ) (k : Kept) → length ns ≤ max_rank → KeptAs l ns (length ns) k → Front l ns k
 kept-front l ns k n h =
     let o = others l (length ns) in
     let f : length o ≤ max_rank = omega (arith, n, choice-few o (length ns) (others-choice l (length ns))) in
     let s : length (select o ns) ≡ length o = select-length o ns in
+    let a = front-is max_rank o k.dims k.count h.dims h.count f in
+    let b = front-is max_rank (select o ns) k.sizes k.count h.sizes (h.count ∙ sym s) (omega (arith, s, f)) in
     record {
-      dims = front-is max_rank o k.dims k.count h.dims h.count f;
-      sizes = front-is max_rank (select o ns) k.sizes k.count h.sizes (h.count ∙ sym s) (omega (arith, s, f));
+      dims = a;
+      sizes = b;
+      room-dims = omega (arith, h.count, f, ap length h.dims, filled-length max_rank 0 o);
+      room-sizes = omega (arith, h.count, f, ap length h.sizes, filled-length max_rank 0 (select o ns));
+      long-dims = h.count ∙ sym (ap length a);
+      long-sizes = h.count ∙ sym s ∙ sym (ap length b);
     }
 
 pub rest-chosen : (x : Shape) (l m : List ℕ) → good_shape x ≡ true → m ≡ others l (rank_of x) → Chosen x m
