@@ -23,6 +23,9 @@ pub record Filled (ok : (ℕ → ℕ) → Type 0) (values₀ filled₀ values fi
   pub stays : (x : ℕ) → get_or filled₀ x 0 ≡ 1 → get_or filled x 0 ≡ 1
 
 module _ (ok : (ℕ → ℕ) → Type 0) (values₀ filled₀ : List ℕ) where
+  pub filled-start : Filled ok values₀ filled₀ values₀ filled₀
+  filled-start = record { long = refl; wide = refl; right = λ f k r. r; stays = λ x e. e }
+
   -- one place more
   module _ (values filled : List ℕ) (c : Filled ok values₀ filled₀ values filled) (x v : ℕ) (inside : x < length values) (marked : x < length filled) where
     pub filled-here : get_or (set filled x 1) x 0 ≡ 1
@@ -119,6 +122,21 @@ module _ (f : ℕ → ℕ) (values₀ : List ℕ) where
         right = λ x h e. absurd (omega (arith, e, nothing 256 x));
         done = λ x h. absurd (not-suc-le-zero h);
       }
+
+  -- one place more
+  pub begun-next : (values filled : List ℕ) (i : ℕ) → Begun f values₀ values filled i → i < length values → (values' filled' : List ℕ) → length values' ≡ length values → length filled' ≡ length filled
+      → (Right f values filled → Right f values' filled') → Fills i filled filled' → Begun f values₀ values' filled' (i + 1)
+  begun-next values filled i b h values' filled' l w r e =
+      record {
+        long = l ∙ b.long;
+        wide = w ∙ b.wide;
+        upto = omega (arith, h, l);
+        right = r b.right;
+        done = λ x g. ⊎_elim (λ (q : x ≡ i). subst (λ (y : ℕ). get_or filled' y 0 ≡ 1) (sym q) e.0) (λ (q : x ≡ i → ⊥). e.1 x (b.done x (below x i g q))) (equal-or x i);
+      }
+    where
+      below : (x i : ℕ) → x < i + 1 → (x ≡ i → ⊥) → x < i
+      below x i g q = ⊎_elim (λ (z : i ≤ x). absurd (q (omega (arith, z, g)))) (λ (z : x < i). z) (le-or-lt i x)
 
   -- all places are filled
   pub begun-end : (values filled : List ℕ) (i : ℕ) → Begun f values₀ values filled i → length values ≤ i → values ≡ tab f (length values₀)

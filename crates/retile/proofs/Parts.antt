@@ -10,7 +10,7 @@ use Rattle.radix.specs.Radix.{tab}
 use Rattle.radix.proofs.Radix.{get_d-tab, length-tab}
 use Rattle.retile.specs.Stores.{Store, cell, mark, Memory, apply_all, stores}
 use Rattle.retile.specs.Steps.{listed}
-use Rattle.retile.proofs.Running.{apply-append, stores-length}
+use Rattle.retile.proofs.Running.{apply-append, stores-length, all-length}
 use Rattle.retile.proofs.Cuts.{run-mark, stores-join}
 
 -- the same values make the same stores
@@ -38,6 +38,12 @@ module _ (f : ℕ → ℕ) where
   pub record Come (first here : Memory) : Type 0 where
     pub from : first.mark ≤ here.mark
     pub left : here ≡ apply_all (stores f first.mark (here.mark - first.mark)) first
+
+  pub come-start : (first : Memory) → Come first first
+  come-start first = let z : 0 ≡ first.mark - first.mark = omega arith in record { from = omega arith; left = ap (λ (n : ℕ). apply_all (stores f first.mark n) first) z }
+
+  pub come-length : {first here : Memory} → Come first here → length here.cells ≡ length first.cells
+  come-length {first} {here} c = ap (λ (M : Memory). length M.cells) c.left ∙ all-length (stores f first.mark (here.mark - first.mark)) first
 
   -- one part more
   module _ (first here here' : Memory) (values : List ℕ) (n : ℕ) (is : values ≡ values_from here.mark n) (e : here' ≡ apply_all (take (2 * n) (stores (listed values here.mark) here.mark (length values))) here) where

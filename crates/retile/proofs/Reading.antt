@@ -11,6 +11,8 @@ use Rattle.tiling.specs.Tile.{offset, padded}
 use Rattle.tiling.proofs.OwnCells.{Valid, cell_holds, cell-offset, offset-below}
 use Rattle.retile.specs.Retile.{read_for, value_in}
 use Rattle.retile.specs.Rows.{HasSteps, IsRow}
+use native.Mathlib.Nat.{zero-mul}
+use Rattle.tiling.proofs.First.{offset-first}
 
 -- a cell whose element is known
 pub value-holds : (sizes p : List ℕ) (tss : List (List ℕ)) (q : List ℕ) (uss : List (List ℕ)) (source : List ℕ) (o n : ℕ) → cell sizes q uss o ≡ holds n → value_in sizes p tss q uss source o ≡ get_or source (offset sizes p tss n) 0
@@ -30,6 +32,10 @@ module _ (sizes p : List ℕ) (tss : List (List ℕ)) (q : List ℕ) (uss : List
 
   to_step : (j : ℕ) → j < r → get_or (take r qtable) j 0 ≡ offset sizes q uss (j * span)
   to_step j h = get_or-take r qtable j 0 h ∙ qs.each j (omega (arith, row.narrow))
+
+  -- the first step of a row stays where it is
+  pub first_step : get_or (take r qtable) 0 0 ≡ 0
+  first_step = to_step 0 row.some ∙ ap (offset sizes q uss) (zero-mul span) ∙ offset-first sizes q uss
 
   -- the row lies inside the source
   pub row_inside : Valid sizes p tss → (k : ℕ) → k ≡ offset sizes p tss n → (j : ℕ) → j < r → k + get_or (take r ptable) j 0 < padded sizes p tss

@@ -21,9 +21,12 @@ use Rattle.retile.specs.Answers.{retile_rules}
 use Rattle.retile.specs.Steps.{IsMeasured, Measures, lower, verdict_on, mark_rules, with_mark}
 use Rattle.retile.specs.declared.sides.Side.{Side}
 
--- the mark inside, the destination long enough, and the same verdict at any mark inside
+-- the shape with both layouts, the mark, and both buffers long enough
 pub record Lent (s : Shape) (from to : Layout) (source cells m : ℕ) : Type 0 where
+  pub from-judged : judge (layout_rules s from) ≡ Ok tt
+  pub to-judged : judge (layout_rules s to) ≡ Ok tt
   pub mark : m ≤ padded_of s to
+  pub from-room : padded_of s from ≤ source
   pub to_room : padded_of s to ≤ cells
   pub again : (k : ℕ) → k ≤ padded_of s to → judge (retile_rules s from to source cells k) ≡ Ok tt
 
@@ -51,7 +54,10 @@ lent s from to source cells m e =
     let it : i ≡ true = and_left i j ij in
     let jt : j ≡ true = and_right i j ij in
     record {
+      from-judged = rw (g, at, ct);
+      to-judged = rw (g, bt, dt);
       mark = leb-true m (padded_of s to) h;
+      from-room = leb-true (padded_of s from) source it;
       to_room = leb-true (padded_of s to) cells jt;
       again = λ k l. rw (g, at, bt, ct, dt, le-leb k (padded_of s to) l, it, jt);
     }

@@ -76,10 +76,20 @@ pub record Running (f : ℕ → ℕ) (first : Memory) (n k : ℕ) (here : Memory
   pub left : here ≡ apply_all (take k (stores f first.mark n)) first
 
 module _ (f : ℕ → ℕ) (first : Memory) (n : ℕ) where
+  pub running-start : Running f first n 0 first Cell
+  running-start = record { settled = 0; made = refl; mark = omega arith; left = refl }
+
+  module _ (k : ℕ) (here : Memory) (phase : Phase) (r : Running f first n k here phase) where
+    pub running-length : length here.cells ≡ length first.cells
+    running-length = ap (λ (M : Memory). length M.cells) r.left ∙ all-length (take k (stores f first.mark n)) first
+
+    pub running-from : first.mark ≤ here.mark
+    running-from = omega (arith, r.mark)
+
   -- while there are stores left the mark is inside, and no cell is added
   pub running-here : (k : ℕ) (here : Memory) (phase : Phase) → Running f first n k here phase → k < 2 * n
       → (first.mark ≤ here.mark) × (here.mark < first.mark + n) × (length here.cells ≡ length first.cells)
-  running-here k here phase r l = (omega (arith, r.mark), inside phase r.made, ap (λ (M : Memory). length M.cells) r.left ∙ all-length (take k (stores f first.mark n)) first)
+  running-here k here phase r l = (running-from k here phase r, inside phase r.made, running-length k here phase r)
     where
       inside : (phase : Phase) → k ≡ made_in phase r.settled → here.mark < first.mark + n
       inside Cell e = omega (arith, e, r.mark, twice-is r.settled)
