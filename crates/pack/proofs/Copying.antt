@@ -2,11 +2,11 @@
 use mathlib.Core.Path.{◌≡◌, refl, sym, ap, ◌∙◌, subst}
 use mathlib.Core.Logic.{⊎_elim, ◌⊎◌, inl, inr}
 use Prim.Native.Nat.{ℕ, zero, suc, ◌+◌, ◌-◌, ◌*◌, ◌<◌, ◌≤◌}
-use native.Mathlib.Nat.{zero-mul, add-mul, mul-le-mul_right}
+use native.Mathlib.Nat.{zero-mul, add-mul, mul-le-mul_right, min-le_left, min-le_right}
 use native.Mathlib.Omega.{arith}
 use mathlib.Core.List.{List, [], ◌∷◌, ◌++◌}
-use lib.ListN.{length, get_or, set, take, drop, length-drop, take-append-drop}
-use lib.Seq.{get_or-drop, length-take-le}
+use lib.ListN.{length, get_or, set, take, drop, length-drop, take-append-drop, length-take}
+use lib.Seq.{get_or-drop, length-take-le, get_or-take}
 use Rattle.std.proofs.lemmas.List.{set-append_right}
 use Rattle.radix.proofs.Lists.{le-or-lt}
 use Rattle.pack.specs.Rows.{walked, scattered, gathered, Reaches}
@@ -30,6 +30,13 @@ runs-of-one table k i h l =
     let e : k * 1 + i ≡ k * 1 = omega arith in
     let z : get_or table (k * 1) 0 ≡ get_or table (k * 1) 0 + i = omega arith in
     ap (λ (x : ℕ). get_or table x 0) e ∙ z
+
+-- the first places of a table go on in the same runs
+pub runs-take : (run n : ℕ) (table : List ℕ) → InRuns run table → InRuns run (take n table)
+runs-take run n table r k i l inside =
+    let e = length-take n table in
+    let a : k * run + i < n = omega (arith, e, min-le_left n (length table)) in
+    get_or-take n table (k * run + i) 0 a ∙ r k i l (omega (arith, e, min-le_right n (length table))) ∙ ap (λ (x : ℕ). x + i) (sym (get_or-take n table (k * run) 0 (omega (arith, a))))
 
 -- the places of a run go on by ones
 pub run_at : (run : ℕ) (table : List ℕ) (j n : ℕ) → InRuns run table → AtRun run table j → IsPart j run (length table) n → GoesOn table j n

@@ -5,7 +5,7 @@ use Prim.Native.Nat.{ℕ, suc, ◌+◌, ◌-◌, ◌*◌, ◌/◌, ◌%◌, ◌<
 use native.Mathlib.Nat.{mul-lt-mul_of_pos_right, le_of_mul-le-mul_right, mul-le-mul_right, div-lt_iff_lt-mul, div-mul-le_self, le-div_iff_mul-le, one-mul, add-mul, min-eq_left, le-mul_of_pos_right}
 use native.Mathlib.Numerals.{add-one}
 use native.Mathlib.Omega.{arith}
-use mathlib.Core.List.{List}
+use mathlib.Core.List.{List, [], ◌∷◌}
 use lib.ListN.{length, get_or, take, drop, length-drop}
 use lib.Seq.{drop-cons, get_or-drop, get_or-take, length-take-le, take_all}
 use Rattle.radix.specs.Radix.{max_count, prod, Sizes, Bounded}
@@ -81,6 +81,16 @@ cut-is sizes p q e s k i span steps wide l at is so some few =
       same = λ _. (refl, r);
     }
 
+-- without a dimension there is one element
+prod-none : (ds : List ℕ) → length ds ≡ 0 → prod ds ≡ 1
+prod-none [] e = refl
+prod-none (d ∷ ds) e = absurd (omega arith)
+
+pub cut-none : (sizes p : List ℕ) → length sizes ≡ 0 → IsCut (record { dimension = 0; place = 0; size = 1; span = 1; steps = 1; wide = 1 }) sizes p
+cut-none sizes p e =
+    let o = prod-none sizes e in
+    record { wide = omega arith; narrow = omega arith; span = omega arith; count = sym o; room = omega (arith, o); inside = λ h. absurd (omega arith); same = λ h. absurd (omega arith) }
+
 module _ (sizes p : List ℕ) (tss : List (List ℕ)) (v : Valid sizes p tss) (small : Sizes sizes) (g : Cut) (i : IsCut g sizes p) where
   -- a step begins at an element
   pub step-below : (q : ℕ) → q < g.steps → q * g.span < prod sizes
@@ -124,6 +134,17 @@ module _ (sizes p : List ℕ) (tss : List (List ℕ)) (v : Valid sizes p tss) (s
             (row-offset sizes p tss v small k g.place at.0 at.1 at.2 q b j below (subst (λ (x : ℕ). b ≤ x - q % x) is.0 left)
             (subst (λ (x : ℕ). j / P < row_room tss (length p) g.place (q % x) b) is.0 (subst (λ (x : ℕ). j / x < r) is.1 near)));
       }
+
+  -- a row's part of the table gives the offsets of its elements, counted from that of the first one
+  pub row-table : (q r : ℕ) → IsRow sizes p tss g q r → (j : ℕ) → j < r * g.span
+      → offset sizes p tss (q * g.span) + get_or (take (r * g.span) (offsets_from sizes p tss (g.wide * g.span))) j 0 ≡ offset sizes p tss (q * g.span + j)
+  row-table q r w j l =
+      let n : j < g.wide * g.span = omega (arith, mul-le-mul_right g.span w.narrow) in
+      ap (λ (x : ℕ). offset sizes p tss (q * g.span) + x) (get_or-take (r * g.span) (offsets_from sizes p tss (g.wide * g.span)) j 0 l ∙ get_d-tab (offset sizes p tss) (g.wide * g.span) j 0 n) ∙ sym (w.same j l)
+
+  pub table-length : (q r : ℕ) → IsRow sizes p tss g q r → length (take (r * g.span) (offsets_from sizes p tss (g.wide * g.span))) ≡ r * g.span
+  table-length q r w =
+      length-take-le (r * g.span) (offsets_from sizes p tss (g.wide * g.span)) (omega (arith, mul-le-mul_right g.span w.narrow, length-tab (offset sizes p tss) (g.wide * g.span)))
 
 -- the part of a table along which the row of r steps from step q on goes, its first cell at base: it ends among the elements, and it names their cells
 pub record Part (sizes p : List ℕ) (tss : List (List ℕ)) (g : Cut) (q r base : ℕ) (table : List ℕ) : Type 0 where

@@ -2,7 +2,7 @@
 use mathlib.Core.Path.{◌≡◌, refl, sym, ap, ◌∙◌, subst}
 use mathlib.Core.Logic.{⊎_elim}
 use Prim.Native.Nat.{ℕ, suc, ◌+◌, ◌-◌, ◌*◌, ◌/◌, ◌%◌, ◌<◌, ◌≤◌, ◌^◌, min}
-use native.Mathlib.Nat.{not-suc-le-zero, eq-or-lt_of_le, add-mul, mul-le-mul_right, mul-lt-mul_of_pos_right, min-eq_left, mod-eq_of_lt, div-lt_iff_lt-mul}
+use native.Mathlib.Nat.{not-suc-le-zero, eq-or-lt_of_le, add-mul, mul-le-mul_right, mul-lt-mul_of_pos_right, min-eq_left, mod-eq_of_lt, div-lt_iff_lt-mul, eq-zero-or-pos}
 use native.Mathlib.Numerals.{add-one}
 use native.Mathlib.Omega.{arith}
 use mathlib.Core.List.{List}
@@ -173,6 +173,12 @@ next-of {sizes} {p} {lens} {flat} {i} {span} r is x most steps some less least a
 
 -- the dimensions are taken from the last one on: with those from k on done, dimension k - 1 is the next
 module _ (sizes p lens flat : List ℕ) (r : Ready sizes p lens flat) where
+  pub before-all : (k n : ℕ) → n ≤ prod sizes → prod (drop k sizes) < n → 0 < k
+  before-all k n h l = ⊎_elim (λ (e : k ≡ 0). absurd (none e)) (λ (e : 0 < k). e) (eq-zero-or-pos k)
+    where
+      none : k ≡ 0 → ⊥
+      none e = let w : prod (drop k sizes) ≡ prod sizes = ap (λ (o : ℕ). prod (drop o sizes)) e in omega (arith, w, h, l)
+
   module _ (k : ℕ) (some : 0 < k) (few : k ≤ length sizes) where
     pub before-size : get_or sizes (k - 1) 0 * prod (drop k sizes) ≡ prod (drop (k - 1) sizes)
     before-size =

@@ -85,6 +85,9 @@ ltb-same x y p q f g =
       | no n ↦ let h : y ≤ x = omega arith in le-ltb x y h ∙ sym (le-ltb p q (g h))
     ]
 
+pub sum_fits : (x y s : ℕ) → x ≤ 2 ^ 60 → y ≤ 2 ^ 60 → s < 2 ^ 64 → x + y + s / 2 ^ 63 < 2 ^ 64
+sum_fits x y s h g l = omega arith
+
 module _ (a b : Weight) (A : Worded a) (B : Worded b) where
   pub less-top : (a.top ≡ b.top → ⊥) → ltb a.top b.top ≡ ltb (value_of a) (value_of b)
   less-top n =

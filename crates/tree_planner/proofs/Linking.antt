@@ -30,6 +30,12 @@ use Rattle.tree_planner.proofs.Filling.{row-agree}
 cost-low : (f r : ℕ) → f ≤ 1 → r ≤ 2 ^ 42 → f * r ≤ 2 ^ 42
 cost-low f r h l = omega (arith, at_most f r h)
 
+pub cost-fits : (f r : ℕ) → f ≤ 1 → r ≤ 2 ^ 42 → f * r < 2 ^ 64
+cost-fits f r h l = omega (arith, cost-low f r h l)
+
+pub top-fits : (f r : ℕ) → f ≤ 1 → r ≤ 2 ^ 42 → f * r * 8 < 2 ^ 64
+top-fits f r h l = omega (arith, cost-low f r h l)
+
 -- what a link weighs
 pub link-value :
     (f r p : ℕ) → f ≤ 1 → r ≤ 2 ^ 42 → r ≡ p → (value_of (word (f * r * 8) 0 0 0) ≡ f * p * scale) × Good (word (f * r * 8) 0 0 0)

@@ -11,9 +11,13 @@ use Rattle.tree_planner.specs.declared.Weight.{Weight}
 use Rattle.tree_planner.specs.Words.{value_of, Worded, Good}
 use Rattle.tree_planner.specs.Merging.{own_at}
 use Rattle.tree_planner.proofs.Adding.{word, raise-value, small-good}
+use native.Mathlib.Numerals.{add-one}
 
 pub power-low : (i : ℕ) → i ≤ 20 → 8 ^ i ≤ 2 ^ 60
 power-low i h = pow-le-pow_right (omega arith) h
+
+pub power-next : (i p : ℕ) → p ≡ 8 ^ i → p * 8 ≡ 8 ^ (i + 1)
+power-next i p e = rw add-one (omega (arith, pow-succ' 8 i))
 
 power-add : (x y : ℕ) → 8 ^ (x + y) ≡ 8 ^ x * 8 ^ y
 power-add zero y =
@@ -43,6 +47,9 @@ unfolding unit
 unit-mid i h =
     let e : 63 - i ≡ 42 - i + 21 = omega arith in
     ap (λ (x : ℕ). 8 ^ x) e ∙ power-add (42 - i) 21
+
+pub power-end : (i x p : ℕ) → i ≡ x → x ≤ 20 → p ≡ 8 ^ i → (p ≡ 8 ^ x) × (p ≤ 2 ^ 60)
+power-end i x p e l h = let q : p ≡ 8 ^ x = h ∙ ap (λ (y : ℕ). 8 ^ y) e in (q, omega (arith, power-low x l))
 
 -- Values of words that hold one digit.
 zero-out : (x : ℕ) → x * 2 ^ 63 + 0 ≡ x * 2 ^ 63
@@ -75,6 +82,9 @@ value_low l = zero_in l
 
 pub digit_low : (d p : ℕ) → d < 8 → p ≤ 2 ^ 60 → d * p < 2 ^ 63
 digit_low d p h l = let e : d * p ≤ 7 * p = mul-le-mul_right p (omega arith) in omega arith
+
+pub digit-fits : (d p : ℕ) → d < 8 → p ≤ 2 ^ 60 → d * p < 2 ^ 64
+digit-fits d p h l = omega (arith, digit_low d p h l)
 
 module _ (sizes : List ℕ) (cells i d : ℕ) (few : cells ≤ 2 ^ 40) (low : d < 8) where
   abbrev size : ℕ
