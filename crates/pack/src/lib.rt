@@ -50,13 +50,13 @@ fn judge_element(shape: Shape, layout: Layout, n: u64, cells: usize) -> Result<(
 // The order and the physical shape at the fronts of order and dims, and the extent, where a pack or unpack breaks no rule: 1, 3, 4, then 9.
 fn measure_call(
     shape: Shape,
-    layout: Layout,
+    layout: &Layout,
     elements: usize,
     cells: usize,
     order: &mut [u64; 6],
     dims: &mut [u64; 24],
 ) -> Result<Extent, Refusal>
-    ensures { MeasuredCall result shape layout elements cells order.new dims.new }
+    ensures { MeasuredCall result shape layout.now elements cells order.new dims.new }
 {
     let x = parts::measure(
         shape,
@@ -101,7 +101,7 @@ pub fn pack(shape: Shape, layout: Layout, source: &[u32], cells: &mut [u32]) -> 
     let mut order = [0u64; 6];
     let mut dims = [0u64; 24];
     let n = source.len();
-    let x = measure_call(shape, layout, n, cells.len(), &mut order, &mut dims)?;
+    let x = measure_call(shape, &layout, n, cells.len(), &mut order, &mut dims)?;
     let t = tiled_of(&shape, &layout, x, &order, &dims);
     loops::pack_in(&t, x.count, x.padded, source, cells);
     Ok(())
@@ -119,7 +119,7 @@ pub fn unpack(
     let mut order = [0u64; 6];
     let mut dims = [0u64; 24];
     let n = destination.len();
-    let x = measure_call(shape, layout, n, cells.len(), &mut order, &mut dims)?;
+    let x = measure_call(shape, &layout, n, cells.len(), &mut order, &mut dims)?;
     let t = tiled_of(&shape, &layout, x, &order, &dims);
     loops::unpack_in(&t, x.count, cells, destination);
     Ok(())

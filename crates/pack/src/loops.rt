@@ -34,7 +34,8 @@ fn in_short_rows(packs: bool, t: &Tiled, from: &[u32], to: &mut [u32])
     rows::carry_with(packs, t, &mut table, from, to);
 }
 
-// Packs or unpacks in rows with a table of 1,024 offsets, dividing by the multipliers.
+// Packs or unpacks in rows with a table of 1,024 offsets, dividing by the multipliers. Always a call, so that its arrays stand in no other frame.
+#[inline(never)]
 fn in_long_rows(packs: bool, t: &Tiled, from: &[u32], to: &mut [u32])
     requires has_room { HasRoomFor t.now packs from.now to.old }
     ensures { CarriedBy t.now packs from.now to.old to.new }
@@ -53,6 +54,7 @@ fn in_long_rows(packs: bool, t: &Tiled, from: &[u32], to: &mut [u32])
 }
 
 // Packs or unpacks along a table of the offsets of all elements.
+#[inline(always)]
 fn by_table(packs: bool, t: &Tiled, count: u64, from: &[u32], to: &mut [u32])
     requires count_value { (count ≡ prod t.now.sizes.now) × (count ≤ 64) }
     requires has_room { HasRoomFor t.now packs from.now to.old }
@@ -65,6 +67,7 @@ fn by_table(packs: bool, t: &Tiled, count: u64, from: &[u32], to: &mut [u32])
 }
 
 // Every element to its cell, in packing, or from it: the only one is in cell 0, few go along a table of all their offsets, more of them in rows.
+#[inline(always)]
 fn carry(packs: bool, t: &Tiled, count: u64, from: &[u32], to: &mut [u32])
     requires count_value { count ≡ prod t.now.sizes.now }
     requires has_room { HasRoomFor t.now packs from.now to.old }
