@@ -120,3 +120,7 @@ part-copied source a (suc n) o xs h g =
     sym (ap (λ (ys : List ℕ). take o xs ++ ys) (ap (λ (v : ℕ). set (take n (drop a source) ++ drop n (drop o xs)) n v) (sym at) ∙ one))
     ∙ sym (set-append_right (take o xs) (take n (drop a source) ++ drop n (drop o xs)) o (o + n) (get_or source (a + n) 0) long (omega arith) ∙ ap (λ (k : ℕ). take o xs ++ set (take n (drop a source) ++ drop n (drop o xs)) k (get_or source (a + n) 0)) e)
     ∙ ap (λ (ys : List ℕ). set ys (o + n) (get_or source (a + n) 0)) (part-copied source a n o xs (omega arith) (omega arith))
+
+-- one value more
+pub copy-next : (source : List ℕ) (a n o : ℕ) (xs : List ℕ) → set (copied source a n o xs) (o + n) (get_or source (a + n) 0) ≡ copied source a (n + 1) o xs
+copy-next source a n o xs = let e : n + 1 ≡ suc n = omega arith in rw (e)

