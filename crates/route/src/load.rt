@@ -137,49 +137,37 @@ fn enter_moves(rank: usize, from: Station, to: Station, at: usize, moved: &mut [
 }
 
 // The station, which keeps its rules 2 and 3 as `from` does that feeds it, is station i.
-fn enter(shape: Shape, loaded: Loaded, i: usize, station: Station, from: Station) -> Loaded
+fn enter(shape: Shape, loaded: &mut Loaded, i: usize, station: Station, from: Station)
     requires shape_value { (good_shape shape ≡ true) × (i < max_stations) }
-    requires sound { Sound loaded }
+    requires sound { Sound loaded.old }
     requires station_value { ((good_count station && good_parent i station) ≡ true) × (good_layouts shape.rank station ≡ true) }
     requires fit { Fit shape.rank from }
-    ensures { Adds shape loaded i station from result }
+    ensures { Adds shape loaded.old i station from loaded.new }
 {
     let repeat = loaded.repeat.and(station_repeat(shape.rank, station, i));
-    let mut parents = loaded.parents;
-    parents[i] = feeding_station(i, station);
-    let mut counts = loaded.counts;
-    counts[i] = station.count;
-    let mut moved = loaded.moved;
-    enter_moves(shape.rank, from, station, i * 64, &mut moved);
-    let mut sizes = loaded.sizes;
-    let kept = enter_sizes(shape, station, i * 8, &mut sizes);
-    Loaded {
-        numbers_kept: loaded.numbers_kept,
-        layouts_kept: loaded.layouts_kept,
-        repeat,
-        sizes_kept: loaded.sizes_kept && kept,
-        parents,
-        counts,
-        sizes,
-        moved,
+    loaded.repeat = repeat;
+    loaded.parents[i] = feeding_station(i, station);
+    loaded.counts[i] = station.count;
+    enter_moves(shape.rank, from, station, i * 64, &mut loaded.moved);
+    let kept = enter_sizes(shape, station, i * 8, &mut loaded.sizes);
+    if !kept {
+        loaded.sizes_kept = false;
     }
 }
 
 // One station more, station i, which `from` feeds. Nothing is entered any more where an earlier one breaks its rule 2
-// or 3.
-pub fn add(shape: Shape, loaded: Loaded, i: usize, station: Station, from: Station) -> Loaded
-    requires { Ready shape loaded i station from }
-    ensures { Adds shape loaded i station from result }
+// or 3. The tables are filled where they lie: a copy of them for each station took most of the time of a small route.
+pub fn add(shape: Shape, loaded: &mut Loaded, i: usize, station: Station, from: Station)
+    requires { Ready shape loaded.old i station from }
+    ensures { Adds shape loaded.old i station from loaded.new }
 {
-    let mut next = loaded;
     if !good_numbers(i, station) {
-        next.numbers_kept = false;
+        loaded.numbers_kept = false;
     } else if !good_layouts(shape.rank, station) {
-        next.layouts_kept = false;
+        loaded.layouts_kept = false;
     } else if loaded.numbers_kept && loaded.layouts_kept {
-        next = enter(shape, loaded, i, station, from);
+        enter(shape, loaded, i, station, from);
     }
-    next
 }
 
 // Reads the first n records of the list.
@@ -191,7 +179,7 @@ pub fn load(shape: Shape, stations: &[Station], n: usize, start: Loaded) -> Load
     for i in 0..n {
         let station = stations[i];
         let from = feeding_station(i, station);
-        loaded = add(shape, loaded, i, station, stations[from]);
+        add(shape, &mut loaded, i, station, stations[from]);
     }
     loaded
 }

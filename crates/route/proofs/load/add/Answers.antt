@@ -13,8 +13,8 @@ returns-then-not-good_layouts c =
     broken-layouts _ _ _ _ _ (sym c.good_numbers.ensures ∙ c.if-not-good_numbers.false)
     (sym c.good_layouts.ensures ∙ c.if-not-good_layouts.true)
 
-pub enter-next-requires-clause-fit : goal.enter-next-requires-clause-fit
-enter-next-requires-clause-fit c =
+pub enter-requires-clause-fit : goal.enter-requires-clause-fit
+enter-requires-clause-fit c =
     c.requires.fit c.if-loaded.true c.if-loaded-2.true
     (fit-of _ _ (and_left _ _ (sym c.good_numbers.ensures ∙ c.if-not-good_numbers.false)) (sym c.good_layouts.ensures ∙ c.if-not-good_layouts.false))
 
@@ -22,6 +22,6 @@ pub returns-else-loaded : goal.returns-else-loaded
 returns-else-loaded c =
     broken-before _ _ _ _ _ (sym c.good_numbers.ensures ∙ c.if-not-good_numbers.false) (sym c.good_layouts.ensures ∙ c.if-not-good_layouts.false)
     (elim c.else-loaded.branch [
-      | else-loaded-via-then-loaded+else-loaded-2 w ↦ and-false c.args.loaded.numbers_kept w.if-loaded-2.false
+      | else-loaded-via-then-loaded+else-loaded-2 w ↦ and-false _ w.if-loaded-2.false
       | else-loaded-via-else-loaded w ↦ rw w.if-loaded.false refl
     ])

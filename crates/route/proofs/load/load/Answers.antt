@@ -8,9 +8,9 @@ use Rattle.route.proofs.load.load.Goals as goal
 pub loop-i-init : goal.loop-i-init
 loop-i-init c = c.requires.none
 
-pub add-loaded-requires : goal.add-loaded-requires
+pub add-requires : goal.add-requires
 unfolding blank
-add-loaded-requires c =
+add-requires c =
     let H = c.loop-i.invariant in
     record {
       shape = c.requires.shape (omega arith);
@@ -23,7 +23,7 @@ add-loaded-requires c =
 pub loop-i-preserved : goal.loop-i-preserved
 unfolding blank
 loop-i-preserved c =
-    c.add-loaded.ensures.more c.args.stations.now c.loop-i.invariant refl
+    c.add.ensures.more c.args.stations.now c.loop-i.invariant refl
     (ap (station_at c.args.stations.now) (sym c.feeding_station-from.ensures))
 
 pub returns : goal.returns
