@@ -1,6 +1,10 @@
 // The fold call for a benchmark: a map is read from three rows of numbers, folded by the library and written back.
 #![tactic(auto)]
 
+ghost use Rattle.std.specs.Prelude.{◌≡◌, [], ◌∷◌};
+ghost use Rattle.indexing.specs.Answers.{no_map};
+ghost use Rattle.fold.specs.FoldMap.{fold_answer};
+
 use indexing::IndexingMap;
 
 // The lengths of a map's rows: its counts (of variables, results and constraints, then of the nodes of each), its numbers
@@ -124,7 +128,9 @@ fn long_enough(counts: usize, numbers: usize, kinds: usize) -> bool {
 }
 
 // A map of zeros.
-fn no_map() -> IndexingMap {
+fn no_map() -> IndexingMap
+    ensures { result ≡ no_map }
+{
     IndexingMap {
         dims: 0,
         ranges: 0,
@@ -138,6 +144,17 @@ fn no_map() -> IndexingMap {
         constraint_upper: [0; 32],
         kinds: [0; 256],
         values: [0; 256],
+    }
+}
+
+// A map folded, zeros where it is refused, and the number, 0 for done.
+fn fold_to_map(m: IndexingMap) -> (IndexingMap, u64)
+    ensures map { result.0 ∷ [] ≡ (fold_answer m).values }
+    ensures number { result.1 ≡ (fold_answer m).number }
+{
+    match fold::fold_map(m) {
+        Ok(map) => (map, 0),
+        Err(r) => (no_map(), refusal::number(r)),
     }
 }
 
@@ -157,10 +174,7 @@ pub extern "C" fn fold_rows(
     if !long_enough(counts_out.len(), numbers_out.len(), kinds_out.len()) {
         return SHORT;
     }
-    let (m, number) = match fold::fold_map(read_map(counts, numbers, kinds)) {
-        Ok(map) => (map, 0),
-        Err(r) => (no_map(), refusal::number(r)),
-    };
+    let (m, number) = fold_to_map(read_map(counts, numbers, kinds));
     write_counts(m, counts_out);
     write_numbers(m, numbers_out);
     copy_kinds(&m.kinds, 0, kinds_out, 0, KINDS);
