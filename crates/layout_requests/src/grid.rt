@@ -4,7 +4,7 @@ use layout::{Layout, Offset};
 use reading::Line;
 use shape::{Element, Shape};
 use std::io::Write;
-use writing::Failure;
+use writing::{Failure, put, text};
 
 // The most cells of a table.
 const MOST: u64 = 4096;
@@ -39,13 +39,13 @@ fn put_table<W: Write>(
     };
     let field = digits_of(cells.saturating_sub(1));
     for element in 0..shape::element_count(shape)? {
-        let separator = match element.checked_rem(columns) {
-            _ if element == 0 => "",
-            Some(0) => "\n",
-            _ => " ",
-        };
+        match element.checked_rem(columns) {
+            _ if element == 0 => {}
+            Some(0) => put(out, b'\n')?,
+            _ => put(out, b' ')?,
+        }
         let offset = layout::offset_of_element(shape, layout, Element(element))?.0;
-        write!(out, "{separator}{offset:>field$}")?;
+        write!(out, "{offset:>field$}")?;
     }
     Ok(())
 }
@@ -64,7 +64,7 @@ fn put_padding<W: Write>(
     layout: Layout,
     cells: u64,
 ) -> Result<(), Failure> {
-    write!(out, "\npadding")?;
+    text(out, b"\npadding")?;
     let mut none = true;
     for offset in 0..cells {
         if layout::element_at(shape, layout, Offset(offset))?.is_none() {
@@ -73,7 +73,7 @@ fn put_padding<W: Write>(
         }
     }
     if none {
-        write!(out, " none")?;
+        text(out, b" none")?;
     }
     Ok(())
 }

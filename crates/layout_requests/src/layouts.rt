@@ -4,7 +4,7 @@ use crate::shapes::put_point;
 use layout::{Fit, Offset};
 use reading::Line;
 use std::io::Write;
-use writing::{Failure, Pattern};
+use writing::{Failure, Pattern, text};
 
 pub fn answer_padded<W: Write>(mut line: Line<'_>, out: &mut W) -> Result<(), Failure> {
     let (shape, layout) = read_tiled(&mut line)?;
@@ -30,7 +30,7 @@ pub fn answer_cell<W: Write>(mut line: Line<'_>, out: &mut W) -> Result<(), Fail
     match layout::element_at(shape, layout, offset)? {
         Some(element) => put_point(out, "element", shape, element),
         None => {
-            write!(out, "padding")?;
+            text(out, b"padding")?;
             Ok(())
         }
     }

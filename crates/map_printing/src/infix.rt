@@ -4,22 +4,23 @@ use crate::trees::{Node, Role, Trees};
 use map_reading::{Kind, Variable};
 use std::io;
 use std::io::Write;
+use writing::{put, text};
 
 // What stands before the first leaf of a tree: the operator of a sum before its right side, which takes the place of the
 // minus of a product by -1, and a parenthesis.
 fn put_opening<W: Write>(out: &mut W, node: Node) -> io::Result<()> {
-    let operator = match node.role {
-        Role::Right if node.is_negative() => " - ",
-        Role::Right => " + ",
-        _ => "",
-    };
-    let parenthesis = if node.is_enclosed() { "(" } else { "" };
-    let minus = if node.is_opposite() && node.role != Role::Right {
-        "-"
-    } else {
-        ""
-    };
-    write!(out, "{operator}{parenthesis}{minus}")
+    match node.role {
+        Role::Right if node.is_negative() => text(out, b" - ")?,
+        Role::Right => text(out, b" + ")?,
+        _ => {}
+    }
+    if node.is_enclosed() {
+        put(out, b'(')?;
+    }
+    if node.is_opposite() && node.role != Role::Right {
+        put(out, b'-')?;
+    }
+    Ok(())
 }
 
 // The openings of the trees that start at a place and end before another.
@@ -56,12 +57,11 @@ fn put_operation<W: Write>(out: &mut W, node: Node) -> io::Result<()> {
     if node.kind == Kind::Sum || node.is_opposite() {
         return Ok(());
     }
-    let word = match node.kind {
-        Kind::Floordiv => "floordiv",
-        Kind::Mod => "mod",
-        _ => "*",
-    };
-    write!(out, " {word} ")?;
+    match node.kind {
+        Kind::Floordiv => text(out, b" floordiv ")?,
+        Kind::Mod => text(out, b" mod ")?,
+        _ => text(out, b" * ")?,
+    }
     put_number(out, node)
 }
 
@@ -73,7 +73,7 @@ fn put_part<W: Write>(out: &mut W, trees: &Trees, place: usize, end: usize) -> i
         return put_leaf(out, node);
     }
     if trees.node(place.saturating_sub(1)).is_enclosed() {
-        write!(out, ")")?;
+        put(out, b')')?;
     }
     put_operation(out, node)
 }

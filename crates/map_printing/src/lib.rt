@@ -10,6 +10,7 @@ use map_reading::{Sort, Variable};
 use std::io;
 use std::io::Write;
 use trees::Trees;
+use writing::{put, text};
 
 // The most nodes of a map.
 const MOST: usize = 256;
@@ -22,22 +23,24 @@ fn end_of(start: usize, count: usize) -> usize {
 // The names of the variables of a sort, with commas between them.
 fn put_names<W: Write>(out: &mut W, sort: Sort, count: usize) -> io::Result<()> {
     for number in 0..count {
-        let comma = if number == 0 { "" } else { ", " };
+        if number > 0 {
+            text(out, b", ")?;
+        }
         let variable = Variable { sort, number };
-        write!(out, "{comma}{variable}")?;
+        write!(out, "{variable}")?;
     }
     Ok(())
 }
 
 // The names of all variables, between brackets.
 fn put_head<W: Write>(out: &mut W, map: &IndexingMap) -> io::Result<()> {
-    write!(out, "(")?;
+    put(out, b'(')?;
     put_names(out, Sort::Dimension, map.dims)?;
-    write!(out, ")")?;
+    put(out, b')')?;
     if map.ranges > 0 {
-        write!(out, "[")?;
+        put(out, b'[')?;
         put_names(out, Sort::Range, map.ranges)?;
-        write!(out, "]")?;
+        put(out, b']')?;
     }
     Ok(())
 }
@@ -47,7 +50,7 @@ fn put_results<W: Write>(out: &mut W, map: &IndexingMap, trees: &Trees) -> io::R
     let mut start = 0;
     for (place, count) in map.result_nodes.iter().take(map.results).enumerate() {
         if place > 0 {
-            write!(out, ", ")?;
+            text(out, b", ")?;
         }
         let end = end_of(start, *count);
         put_expression(out, trees, start, end)?;
@@ -59,10 +62,16 @@ fn put_results<W: Write>(out: &mut W, map: &IndexingMap, trees: &Trees) -> io::R
 // The start of a line of the domain, behind the line before it.
 fn start_line<W: Write>(out: &mut W, is_first: bool) -> io::Result<()> {
     if is_first {
-        write!(out, ",\ndomain:\n")
+        text(out, b",\ndomain:\n")
     } else {
-        write!(out, ",\n")
+        text(out, b",\n")
     }
+}
+
+// The word `in` and the two ends of an interval, between brackets.
+fn put_interval<W: Write>(out: &mut W, lower: i64, upper: i64) -> io::Result<()> {
+    text(out, b" in ")?;
+    write!(out, "[{lower}, {upper}]")
 }
 
 // A line for each variable of a sort, with its bounds. The domain may start with them.
@@ -81,7 +90,7 @@ fn put_bounds<W: Write>(
         if place < map.lower.len() {
             let lower = map.lower[place];
             let upper = map.upper[place];
-            write!(out, " in [{lower}, {upper}]")?;
+            put_interval(out, lower, upper)?;
         }
     }
     Ok(())
@@ -102,7 +111,7 @@ fn put_constraints<W: Write>(
         let upper = map.constraint_upper[place];
         start_line(out, is_start && place == 0)?;
         put_expression(out, trees, start, end)?;
-        write!(out, " in [{lower}, {upper}]")?;
+        put_interval(out, lower, upper)?;
         start = end;
     }
     Ok(())
@@ -112,9 +121,9 @@ fn put_constraints<W: Write>(
 pub fn print_map<W: Write>(out: &mut W, map: &IndexingMap) -> io::Result<()> {
     let trees = Trees::of(map);
     put_head(out, map)?;
-    write!(out, " -> (")?;
+    text(out, b" -> (")?;
     let start = put_results(out, map, &trees)?;
-    write!(out, ")")?;
+    put(out, b')')?;
     put_bounds(out, map, Sort::Dimension, map.dims, true)?;
     put_bounds(out, map, Sort::Range, map.ranges, map.dims == 0)?;
     let is_start = map.dims == 0 && map.ranges == 0;

@@ -7,7 +7,7 @@ use offset_table::Finding;
 use reading::{Line, Unreadable, no_layout, put_at};
 use shape::Shape;
 use std::io::Write;
-use writing::Failure;
+use writing::{Failure, text};
 
 // The places of the buffer for a table's offsets, one more than any table has.
 const PLACES: usize = 4097;
@@ -49,7 +49,7 @@ pub fn answer_table<W: Write>(mut line: Line<'_>, out: &mut W) -> Result<(), Fai
     let table = read_table(&mut line, &mut buffer)?;
     line.finish()?;
     match offset_table::judge_table(table.shape, table.offsets, table.padded)? {
-        Finding::Sound => write!(out, "sound")?,
+        Finding::Sound => text(out, b"sound")?,
         Finding::Outside(element) => write!(out, "outside {}", element.0)?,
         Finding::Shared(earlier, later) => write!(out, "shared {} {}", earlier.0, later.0)?,
     }

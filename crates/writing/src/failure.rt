@@ -1,4 +1,5 @@
 // What a request may fail by.
+use crate::text;
 use reading::Unreadable;
 use refusal::Refusal;
 use std::io;
@@ -36,8 +37,14 @@ impl Failure {
     // Puts what the request answers then, if anything can be put.
     pub fn put<W: Write>(self, out: &mut W) -> io::Result<()> {
         match self {
-            Failure::Unreadable(at) => write!(out, "error: {at}"),
-            Failure::Refused(refusal) => write!(out, "refused {refusal}"),
+            Failure::Unreadable(at) => {
+                text(out, b"error: ")?;
+                write!(out, "{at}")
+            }
+            Failure::Refused(refusal) => {
+                text(out, b"refused ")?;
+                write!(out, "{refusal}")
+            }
             Failure::Output(error) => Err(error),
         }
     }
