@@ -14,9 +14,10 @@ pub fn answer_pack<W: Write>(mut line: Line<'_>, out: &mut W) -> Result<(), Fail
     line.finish()?;
     let mut source = [0; PLACES];
     let mut cells = [BEFORE; PLACES];
-    count_up(&mut source, 1);
+    let source = front(&mut source, lengths.given);
     let cells = front(&mut cells, lengths.made);
-    pack::pack(shape, layout, front(&mut source, lengths.given), cells)?;
+    count_up(source, 1);
+    pack::pack(shape, layout, source, cells)?;
     let size = layout::padded_size(shape, layout)?;
     write!(out, "cells{}", Spaced(first_of(cells, size as usize)))?;
     Ok(())
@@ -28,9 +29,10 @@ pub fn answer_unpack<W: Write>(mut line: Line<'_>, out: &mut W) -> Result<(), Fa
     line.finish()?;
     let mut cells = [0; PLACES];
     let mut elements = [BEFORE; PLACES];
-    count_up(&mut cells, 0);
+    let cells = front(&mut cells, lengths.given);
     let elements = front(&mut elements, lengths.made);
-    pack::unpack(shape, layout, front(&mut cells, lengths.given), elements)?;
+    count_up(cells, 0);
+    pack::unpack(shape, layout, cells, elements)?;
     let count = shape::element_count(shape)?;
     write!(
         out,
@@ -60,8 +62,9 @@ pub fn answer_load<W: Write>(mut line: Line<'_>, out: &mut W) -> Result<(), Fail
     let length = line.buffer_length()?;
     line.finish()?;
     let mut cells = [0; PLACES];
-    count_up(&mut cells, 0);
-    let value = pack::load(shape, layout, element, front(&mut cells, length))?;
+    let cells = front(&mut cells, length);
+    count_up(cells, 0);
+    let value = pack::load(shape, layout, element, cells)?;
     write!(out, "value {value}")?;
     Ok(())
 }
