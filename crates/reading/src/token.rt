@@ -2,7 +2,7 @@
 ghost use Rattle.std.specs.Prelude.{◌≡◌, ℕ, ◌+◌, ◌<◌, ◌≤◌, ◌↔◌, IsTrue, IsOk, IfOk, IfErr, length, drop, take, slice_get, slice_index};
 
 use std::error::Error;
-use std::{fmt, str};
+use std::fmt;
 
 // The place of the token that cannot be read.
 #[derive(Clone, Copy, Debug, PartialEq, Eq)]
@@ -44,6 +44,27 @@ pub fn count_digits(bytes: &[u8]) -> usize
         .iter()
         .position(|byte| !byte.is_ascii_digit())
         .unwrap_or(bytes.len())
+}
+
+// The value of digits, alone or behind a minus, where there are any and it is from -2^63 to 2^63 - 1. It is reckoned below
+// zero, which has a value more. The last four bits of a digit's byte are its value.
+fn value_of(number: &[u8]) -> Option<i64> {
+    let (is_negative, digits) = match number {
+        [b'-', digits @ ..] => (true, digits),
+        digits => (false, digits),
+    };
+    if digits.is_empty() {
+        return None;
+    }
+    let mut value: i64 = 0;
+    for digit in digits {
+        value = value.checked_mul(10)?.checked_sub(i64::from(*digit % 16))?;
+    }
+    if is_negative {
+        Some(value)
+    } else {
+        value.checked_neg()
+    }
 }
 
 // How many letters the bytes start with.
@@ -211,10 +232,7 @@ impl<'a> Line<'a> {
             [b'-', digits @ ..] => 1 + count_digits(digits),
             digits => count_digits(digits),
         };
-        str::from_utf8(self.take(count))
-            .ok()
-            .and_then(|text| text.parse().ok())
-            .ok_or(at)
+        value_of(self.take(count)).ok_or(at)
     }
 
     // Reads a number that has no sign.
