@@ -156,7 +156,7 @@ fn enter(shape: Shape, loaded: &mut Loaded, i: usize, station: Station, from: St
 }
 
 // One station more, station i, which `from` feeds. Nothing is entered any more where an earlier one breaks its rule 2
-// or 3. The tables are filled where they lie: a copy of them for each station took most of the time of a small route.
+// or 3. The tables are filled where they lie, not copied for each station.
 pub fn add(shape: Shape, loaded: &mut Loaded, i: usize, station: Station, from: Station)
     requires { Ready shape loaded.old i station from }
     ensures { Adds shape loaded.old i station from loaded.new }
