@@ -122,7 +122,8 @@ fn lower(table: &mut [u64], at: usize, x: Weight, y: Weight)
         return;
     }
     let w = sum(x, y);
-    if w < load(table, at) {
+    let held = load(table, at);
+    if w < held {
         store(table, at, w);
     }
 }

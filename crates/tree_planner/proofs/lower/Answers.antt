@@ -9,14 +9,14 @@ returns-then-table-at c = entry-above _ _ _ _ c.requires.0 c.if-table-at.true
 
 pub returns-then-lt : goal.returns-then-lt
 returns-then-lt c =
-    entry-lower _ _ _ _ c.requires.0 _ _ c.sum-w.ensures.1 c.sum-w.ensures.0 c.load.ensures _
-    (c.lt.ensures ∙ below-is _ _ c.sum-w.ensures.1 (good-at _ _ _ c.requires.0 c.load.ensures).words)
+    entry-lower _ _ _ _ c.requires.0 _ _ c.sum-w.ensures.1 c.sum-w.ensures.0 c.load-held.ensures _
+    (c.lt.ensures ∙ below-is _ _ c.sum-w.ensures.1 (good-at _ _ _ c.requires.0 c.load-held.ensures).words)
     _
     c.if-lt.true
     c.store.ensures
 
 pub returns-else-lt : goal.returns-else-lt
 returns-else-lt c =
-    entry_kept _ _ _ _ c.requires.0 _ _ c.sum-w.ensures.1 c.sum-w.ensures.0 c.load.ensures _
-    (c.lt.ensures ∙ below-is _ _ c.sum-w.ensures.1 (good-at _ _ _ c.requires.0 c.load.ensures).words)
+    entry_kept _ _ _ _ c.requires.0 _ _ c.sum-w.ensures.1 c.sum-w.ensures.0 c.load-held.ensures _
+    (c.lt.ensures ∙ below-is _ _ c.sum-w.ensures.1 (good-at _ _ _ c.requires.0 c.load-held.ensures).words)
     c.if-lt.false
