@@ -46,18 +46,18 @@ pub value-lt : (a b : Weight) → Worded a → a.top < b.top → value_of a < va
 unfolding value_of
 value-lt a b A t = more_lt _ _ _ _ (more_lt _ _ _ _ (more_lt _ _ _ _ t A.high) A.mid) A.low
 
-value-high : (a b : Weight) → Worded a → a.top ≡ b.top → a.high < b.high → value_of a < value_of b
+pub value-high : (a b : Weight) → Worded a → a.top ≡ b.top → a.high < b.high → value_of a < value_of b
 unfolding value_of
 value-high a b A e t = more_lt _ _ _ _ (more_lt _ _ _ _ (more_same _ _ _ _ e t) A.mid) A.low
 
 same_more : (x y r s : ℕ) → x ≡ y → r ≡ s → x * 2 ^ 63 + r ≡ y * 2 ^ 63 + s
 same_more x y r s e f = omega arith
 
-value_mid : (a b : Weight) → Worded a → a.top ≡ b.top → a.high ≡ b.high → a.mid < b.mid → value_of a < value_of b
+pub value_mid : (a b : Weight) → Worded a → a.top ≡ b.top → a.high ≡ b.high → a.mid < b.mid → value_of a < value_of b
 unfolding value_of
 value_mid a b A e f t = more_lt _ _ _ _ (more_same _ _ _ _ (same_more _ _ _ _ e f) t) A.low
 
-value_low : (a b : Weight) → a.top ≡ b.top → a.high ≡ b.high → a.mid ≡ b.mid → a.low ≤ b.low → value_of a ≤ value_of b
+pub value_low : (a b : Weight) → a.top ≡ b.top → a.high ≡ b.high → a.mid ≡ b.mid → a.low ≤ b.low → value_of a ≤ value_of b
 unfolding value_of
 value_low a b e f g t = last _ _ _ _ (same_more _ _ _ _ (same_more _ _ _ _ e f) g) t
   where
@@ -151,6 +151,27 @@ pub sum_more : (w x y : Weight) → Worded w → w.top < x.top + y.top → value
 sum_more w x y W h = least (value_of w) (value_of x + value_of y) _ (value-lt w (word (x.top + y.top) 0 0 0) W h) (tops x y)
   where
     least : (v s z : ℕ) → v < z → z ≤ s → v ≡ min v s
+    least v s z l m = omega arith
+
+-- the sums of the words
+abbrev pub sums : Weight → Weight → Weight
+sums x y = word (x.top + y.top) (x.high + y.high) (x.mid + y.mid) (x.low + y.low)
+
+sums-value : (x y : Weight) → value_of (sums x y) ≡ value_of x + value_of y
+unfolding value_of
+sums-value x y =
+    ap (λ (z : ℕ). (z * 2 ^ 63 + (x.mid + y.mid)) * 2 ^ 63 + (x.low + y.low)) (both x.top y.top x.high y.high)
+    ∙ ap (λ (z : ℕ). z * 2 ^ 63 + (x.low + y.low)) (both (x.top * 2 ^ 63 + x.high) (y.top * 2 ^ 63 + y.high) x.mid y.mid)
+    ∙ both ((x.top * 2 ^ 63 + x.high) * 2 ^ 63 + x.mid) ((y.top * 2 ^ 63 + y.high) * 2 ^ 63 + y.mid) x.low y.low
+  where
+    both : (p q r s : ℕ) → (p + q) * 2 ^ 63 + (r + s) ≡ p * 2 ^ 63 + r + (q * 2 ^ 63 + s)
+    both p q r s = omega arith
+
+-- a weight up to those
+pub sums_more : (w x y : Weight) → value_of w ≤ value_of (sums x y) → value_of w ≡ min (value_of w) (value_of x + value_of y)
+sums_more w x y h = least (value_of w) (value_of x + value_of y) _ h (sums-value x y)
+  where
+    least : (v s z : ℕ) → v ≤ z → z ≡ s → v ≡ min v s
     least v s z l m = omega arith
 
 -- a cost on top

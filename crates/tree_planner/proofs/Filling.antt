@@ -15,7 +15,7 @@ use Rattle.tree_plan.proofs.Lowest.{lowest-cap, lowest-agree, lowest-cut}
 use Rattle.tree_planner.specs.declared.Weight.{Weight}
 use Rattle.tree_planner.specs.Words.{value_of, Worded, Good, words_at, weight_at, Sound}
 use Rattle.tree_planner.specs.Rows.{Stored, Entry, Row, Rows, Kept, later, lowered, together}
-use Rattle.tree_planner.proofs.Adding.{sum_more, smaller-second, smaller-first}
+use Rattle.tree_planner.proofs.Adding.{sums, sum_more, sums_more, smaller-second, smaller-first}
 
 pub good-at : (T : List ℕ) (e : ℕ) (w : Weight) → Sound T → w ≡ words_at T e → Good w
 good-at T e w S q = subst Good (sym q) (S.good e)
@@ -48,6 +48,10 @@ module _ (T : List ℕ) (e : ℕ) (x y : Weight) (S : Sound T) where
   -- the top words tell that the sum is not less
   pub entry-above : (words_at T e).top < x.top + y.top → Entry T T e lesser
   entry-above h = entry-same T e lesser S (sum_more (words_at T e) x y (S.good e).words h)
+
+  -- all the words tell it
+  pub entry-up-to : (l : Weight) → l ≡ words_at T e → value_of l ≤ value_of (sums x y) → Entry T T e lesser
+  entry-up-to l p h = entry-same T e lesser S (sums_more (words_at T e) x y (subst (λ (z : Weight). value_of z ≤ value_of (sums x y)) p h))
 
   module _ (w l : Weight) (W : Worded w) (q : value_of w ≡ value_of x + value_of y) (p : l ≡ words_at T e) (r : Bool)
       (d : r ≡ ltb (value_of w) (value_of l)) where

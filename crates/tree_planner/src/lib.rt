@@ -112,7 +112,7 @@ fn store(table: &mut [u64], at: usize, w: Weight)
     table[at * ENTRY_WORDS + 3] = w.low;
 }
 
-// Lowers an entry to the sum of x and y, where that is less. Mostly the top words tell that it is not.
+// Lowers an entry to the sum of x and y, where that is less. Mostly the top words, or all, tell that it is not.
 fn lower(table: &mut [u64], at: usize, x: Weight, y: Weight)
     requires { Sound table.old × (at < 32768) × (at * 4 + 4 ≤ length table.old) × Good x × Good y }
     ensures { Entry table.old table.new at
@@ -121,8 +121,17 @@ fn lower(table: &mut [u64], at: usize, x: Weight, y: Weight)
     if table[at * ENTRY_WORDS] < x.top + y.top {
         return;
     }
-    let w = sum(x, y);
     let held = load(table, at);
+    let words = Weight {
+        top: x.top + y.top,
+        high: x.high + y.high,
+        mid: x.mid + y.mid,
+        low: x.low + y.low,
+    };
+    if held <= words {
+        return;
+    }
+    let w = sum(x, y);
     if w < held {
         store(table, at, w);
     }
